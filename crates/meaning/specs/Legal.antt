@@ -1,0 +1,87 @@
+-- Document 01, "The sheet" and "Values": which trees are sheets. Ranges, depth, calls, and where a marker may stand.
+use Prim.Native.Nat.{ℕ, suc, _+_, _≤_}
+use mathlib.Core.Path.{_≡_}
+use mathlib.Core.Logic.{_⊎_}
+use mathlib.Core.Bool.{Bool, true, false}
+use mathlib.Core.List.{List, [], _∷_}
+use mathlib.Core.Option.{none}
+use Rattle.meaning.specs.Tree.{Construct, Constructs, Routine, Sheet, mark}
+use Rattle.meaning.specs.Tree.{primitive, sequence, alternative, headLoop, tailLoop, timedLoop, call, marker, end, _then_}
+use Rattle.meaning.specs.Format.{Record, InRange, sheetRows, routineRows, constructRows, recordOf, routineRecord, sheetRecord}
+
+-- How a place lies in the innermost scope around it. nowhere: in none to which a marker here could belong. straight: in its body,
+-- inside no alternative of it. inside: inside an alternative of it. branch: a branch of such an alternative. lead: the first child
+-- of a branch that is a sequence, and "a marker stands only" there.
+pub data Reach : Type 0 where
+  nowhere straight inside branch lead : Reach
+
+-- "Between that loop and the marker only three things may stand: sequences," their first child and the later ones,
+abbrev pub firstChild : Reach → Reach
+firstChild nowhere = nowhere
+firstChild straight = straight
+firstChild inside = inside
+firstChild branch = lead
+firstChild lead = inside
+
+abbrev pub laterChild : Reach → Reach
+laterChild nowhere = nowhere
+laterChild straight = straight
+laterChild inside = inside
+laterChild branch = inside
+laterChild lead = inside
+
+-- "branches of alternatives,
+abbrev pub asBranch : Reach → Reach
+asBranch nowhere = nowhere
+asBranch straight = branch
+asBranch inside = branch
+asBranch branch = branch
+asBranch lead = branch
+
+-- bodies of counted loops with scope 0. No such loop may lie inside an alternative that lies inside the scope"; a scope is a new one.
+abbrev pub asBody : Bool → Reach → Reach
+asBody true r = straight
+asBody false nowhere = nowhere
+asBody false straight = straight
+asBody false inside = nowhere
+asBody false branch = nowhere
+asBody false lead = nowhere
+
+-- some branch is plain
+abbrev pub Plain : Constructs → Type 0
+Plain end = ⊥
+Plain (b then bs) = (mark b ≡ none) ⊎ Plain bs
+
+-- a construct's record: its fields in range, "the deepest allowed is 24"
+abbrev pub Fit : ℕ → Construct → Type 0
+Fit depth c = InRange constructRows (recordOf c) × (depth ≤ 24)
+
+-- Legal before depth r c: c may stand at this depth and reach in a routine that has so many routines before it.
+-- "Conditions, inits, overrun and timeout statements in between make a marker stray": their reach is nowhere.
+abbrev mutual
+  pub Legal : ℕ → ℕ → Reach → Construct → Type 0
+  Legal before depth r (primitive p) = Fit depth (primitive p)
+  Legal before depth r (sequence cs) = Fit depth (sequence cs) × Legals before (suc depth) (firstChild r) (laterChild r) cs
+  Legal before depth r (alternative c bs) =
+      Fit depth (alternative c bs) × Legal before (suc depth) nowhere c × Legals before (suc depth) (asBranch r) (asBranch r) bs × Plain bs
+  Legal before depth r (headLoop l i c b o) =
+      Fit depth (headLoop l i c b o) × Legal before (suc depth) nowhere i × Legal before (suc depth) nowhere c × Legal before (suc depth) (asBody (l .scope) r) b
+      × Legal before (suc depth) nowhere o
+  Legal before depth r (tailLoop l b c o) =
+      Fit depth (tailLoop l b c o) × Legal before (suc depth) (asBody (l .scope) r) b × Legal before (suc depth) nowhere c × Legal before (suc depth) nowhere o
+  Legal before depth r (timedLoop w o) = Fit depth (timedLoop w o) × Legal before (suc depth) nowhere o
+  Legal before depth r (call k) = Fit depth (call k) × (1 ≤ k .routine) × (k .routine ≤ before)
+  Legal before depth r (marker m) = Fit depth (marker m) × (r ≡ lead)
+
+  -- the first at one reach, the later ones at another
+  pub Legals : ℕ → ℕ → Reach → Reach → Constructs → Type 0
+  Legals before depth f r end = Unit {0}
+  Legals before depth f r (c then cs) = Legal before depth f c × Legals before depth r r cs
+
+-- "A body has depth 1", and lies in no scope.
+abbrev pub LegalRoutines : ℕ → List Routine → Type 0
+LegalRoutines before [] = Unit {0}
+LegalRoutines before (r ∷ rs) = InRange routineRows (routineRecord r) × Legal before 1 nowhere (r .body) × LegalRoutines (before + 1) rs
+
+abbrev pub LegalSheet : Sheet → Type 0
+LegalSheet s = InRange sheetRows (sheetRecord s) × LegalRoutines 0 (s .routines)
