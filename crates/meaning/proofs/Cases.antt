@@ -5,8 +5,8 @@ use mathlib.Core.List.{List, [], _∷_, map}
 use Rattle.meaning.specs.Tree.{Construct}
 use Rattle.meaning.specs.Format.{listed, rangesOf, inRanges, words, recordBytes, bytes, routineBytes, routinesBytes, bytesOf}
 use Rattle.meaning.specs.Value.{pays, total, times, value, bound, bounds}
-use Rattle.meaning.specs.Judgement.{refuse, two, four, fieldsAt, judged, list, branches, sequenceAt, alternativeAt, headLoopAt, tailLoopAt, timedLoopAt, constructAt, routineAt, routinesAt, sheetAt, read}
-use Rattle.meaning.specs.Answer.{ended, endedRoutines, tooBig, Verdict, accepted, refused, TOO-BIG, outcome, answer}
+use Rattle.meaning.specs.Judgement.{refuse, two, four, fieldsAt, judged, list, branches, sequenceAt, alternativeAt, headLoopAt, tailLoopAt, timedLoopAt, constructAt, routineAt, routinesAt, sheetAt}
+use Rattle.meaning.specs.Answer.{ended, endedRoutines, tooBig, Verdict, accepted, refused, outcome, answer}
 use Rattle.meaning.proofs.Notation.{P, S, A, H, H*, T, W, M, R, sheet}
 
 pub record Case : Type 0 where
@@ -44,9 +44,9 @@ table =
     ∷ case (h 4 2) 103  -- k
     ∷ case l 130  -- l
     ∷ case (m 255) 1099511627775  -- m
-    ∷ with-organisation 0 (m 256) (refused TOO-BIG 20)  -- n: the sequence starts at 20, behind the sheet's 12 bytes and the routine's 8
+    ∷ with-organisation 0 (m 256) (refused 12 20)  -- n: the sequence starts at 20, behind the sheet's 12 bytes and the routine's 8
     ∷ []
 
 pub cases : map (λ c. answer (c .sheet) 64) table ≡ map (λ c. c .answer) table
-unfolding table listed rangesOf inRanges words recordBytes bytes routineBytes routinesBytes bytesOf pays total times value bound bounds refuse two four fieldsAt judged list branches sequenceAt alternativeAt headLoopAt tailLoopAt timedLoopAt constructAt routineAt routinesAt sheetAt read ended endedRoutines tooBig outcome answer
+unfolding table listed rangesOf inRanges words recordBytes bytes routineBytes routinesBytes bytesOf pays total times value bound bounds refuse two four fieldsAt judged list branches sequenceAt alternativeAt headLoopAt tailLoopAt timedLoopAt constructAt routineAt routinesAt sheetAt ended endedRoutines tooBig outcome answer
 cases = refl

@@ -9,16 +9,7 @@ use Rattle.meaning.specs.Tree.{Construct, Constructs, Routine, Sheet}
 use Rattle.meaning.specs.Tree.{primitive, sequence, alternative, headLoop, tailLoop, timedLoop, call, marker, end, _then_}
 use Rattle.meaning.specs.Format.{pick, lengthOf, Record, recordOf, routineRecord, sheetRecord, bytes, routineBytes, routinesBytes}
 use Rattle.meaning.specs.Value.{Known, value, bound, knowing, nothing, boundsOf, taskBound}
-use Rattle.meaning.specs.Judgement.{Reading, read}
-
-abbrev pub NO-ROOM : ℕ
-NO-ROOM = 1
-
-abbrev pub TOO-LONG : ℕ
-TOO-LONG = 2
-
-abbrev pub TOO-BIG : ℕ
-TOO-BIG = 12
+use Rattle.meaning.specs.Judgement.{Reading, sheetAt}
 
 -- "A value may be at most 1,099,511,627,775"
 abbrev pub valueLimit : ℕ
@@ -71,7 +62,7 @@ endedRoutines known at (r ∷ rs) =
 abbrev pub endedOf : Sheet → List Ended
 endedOf s = endedRoutines nothing (pastRecord 0 (sheetRecord s)) (s .routines)
 
--- 12: "at the first record to end with too large a value"
+-- "at the first record to end with too large a value", if there is one
 unfoldable pub tooBig : List Ended → Option ℕ
 tooBig [] = none
 tooBig (e ∷ es) = pick (ltb valueLimit (e .value)) (some (e .place)) (tooBig es)
@@ -81,27 +72,27 @@ pub data Verdict (A : Type 0) : Type 0 where
   accepted : A → Verdict A
   refused : ℕ → ℕ → Verdict A
 
--- "TOO BIG is given only for a sheet with none of these"
+-- 12, TOO BIG, "is given only for a sheet with none of these"
 abbrev pub sized : Sheet → Option ℕ → Verdict Sheet
 sized s none = accepted s
-sized s (some place) = Verdict.refused TOO-BIG place
+sized s (some place) = Verdict.refused 12 place
 
 abbrev pub judgement : Reading Sheet → Verdict Sheet
 judgement (Reading.refused number place) = Verdict.refused number place
 judgement (Reading.found s next) = sized s (tooBig (endedOf s))
 
--- the sheet that bytes are, or a refusal from 2 to 12
+-- the sheet that bytes are, or a refusal: 2, TOO LONG, "over 60,000 bytes", then those above
 unfoldable pub outcome : List ℕ → Verdict Sheet
-outcome s = pick (ltb 60000 (length s)) (Verdict.refused TOO-LONG 0) (judgement (read s))
+outcome s = pick (ltb 60000 (length s)) (Verdict.refused 2 0) (judgement (sheetAt s 0))
 
 -- "accepted with the last routine's bound"
 abbrev pub told : Verdict Sheet → Verdict ℕ
 told (accepted s) = accepted (taskBound s)
 told (Verdict.refused number place) = Verdict.refused number place
 
--- "1 and 2 come first, in that order." room is the length of the lent table.
+-- "1 and 2 come first, in that order": 1, NO ROOM, "table shorter than 64"; room is the length of the lent table.
 unfoldable pub answer : List ℕ → ℕ → Verdict ℕ
-answer s room = pick (ltb room 64) (Verdict.refused NO-ROOM 0) (told (outcome s))
+answer s room = pick (ltb room 64) (Verdict.refused 1 0) (told (outcome s))
 
 -- "a refusal's bound is 0"
 abbrev pub boundIn : Verdict ℕ → ℕ

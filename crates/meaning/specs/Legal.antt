@@ -7,57 +7,50 @@ use mathlib.Core.List.{List, [], _∷_}
 use mathlib.Core.Option.{none}
 use Rattle.meaning.specs.Tree.{Construct, Constructs, Routine, Sheet, mark}
 use Rattle.meaning.specs.Tree.{primitive, sequence, alternative, headLoop, tailLoop, timedLoop, call, marker, end, _then_}
-use Rattle.meaning.specs.Format.{Record, InRange, sheetRows, routineRows, constructRows, recordOf, routineRecord, sheetRecord}
+use Rattle.meaning.specs.Format.{pick, InRange, sheetRows, routineRows, constructRows, recordOf, routineRecord, sheetRecord}
 
--- How a place lies in the innermost scope around it. nowhere: in none to which a marker here could belong. straight: in its body,
--- inside no alternative of it. inside: inside an alternative of it. branch: a branch of such an alternative. lead: the first child
--- of a branch that is a sequence, and "a marker stands only" there.
-pub data Reach : Type 0 where
-  nowhere straight inside branch lead : Reach
+-- How a construct lies: in a scope to which a marker here would belong; inside an alternative of that scope; as a branch; as the first
+-- child of a sequence that is a branch.
+pub record Reach : Type 0 where
+  pub scope : Bool
+  pub alternative : Bool
+  pub branch : Bool
+  pub lead : Bool
 
--- "Between that loop and the marker only three things may stand: sequences," their first child and the later ones,
+-- "A marker stands only as the first child of a sequence that is itself a branch", and belongs to a scope.
+abbrev pub mayMark : Reach → Bool
+mayMark r = pick (r .scope) (r .lead) false
+
+-- "Conditions, inits, overrun and timeout statements in between make a marker stray", and so does a routine's edge.
+abbrev pub nowhere : Reach
+nowhere = record { scope = false; alternative = false; branch = false; lead = false }
+
+-- "Between that loop and the marker only three things may stand: sequences," by their first child and the later ones,
 abbrev pub firstChild : Reach → Reach
-firstChild nowhere = nowhere
-firstChild straight = straight
-firstChild inside = inside
-firstChild branch = lead
-firstChild lead = inside
+firstChild r = record { scope = r .scope; alternative = r .alternative; branch = false; lead = r .branch }
 
 abbrev pub laterChild : Reach → Reach
-laterChild nowhere = nowhere
-laterChild straight = straight
-laterChild inside = inside
-laterChild branch = inside
-laterChild lead = inside
+laterChild r = record { scope = r .scope; alternative = r .alternative; branch = false; lead = false }
 
 -- "branches of alternatives,
 abbrev pub asBranch : Reach → Reach
-asBranch nowhere = nowhere
-asBranch straight = branch
-asBranch inside = branch
-asBranch branch = branch
-asBranch lead = branch
+asBranch r = record { scope = r .scope; alternative = true; branch = true; lead = false }
 
--- bodies of counted loops with scope 0. No such loop may lie inside an alternative that lies inside the scope"; a scope is a new one.
+-- bodies of counted loops with scope 0. No such loop may lie inside an alternative that lies inside the scope." One with scope 1 is a new scope.
 abbrev pub asBody : Bool → Reach → Reach
-asBody true r = straight
-asBody false nowhere = nowhere
-asBody false straight = straight
-asBody false inside = nowhere
-asBody false branch = nowhere
-asBody false lead = nowhere
+asBody true r = record { scope = true; alternative = false; branch = false; lead = false }
+asBody false r = record { scope = pick (r .alternative) false (r .scope); alternative = r .alternative; branch = false; lead = false }
 
 -- some branch is plain
 abbrev pub Plain : Constructs → Type 0
 Plain end = ⊥
 Plain (b then bs) = (mark b ≡ none) ⊎ Plain bs
 
--- a construct's record: its fields in range, "the deepest allowed is 24"
+-- the fields in range, "the deepest allowed is 24"
 abbrev pub Fit : ℕ → Construct → Type 0
 Fit depth c = InRange constructRows (recordOf c) × (depth ≤ 24)
 
 -- Legal before depth r c: c may stand at this depth and reach in a routine that has so many routines before it.
--- "Conditions, inits, overrun and timeout statements in between make a marker stray": their reach is nowhere.
 abbrev mutual
   pub Legal : ℕ → ℕ → Reach → Construct → Type 0
   Legal before depth r (primitive p) = Fit depth (primitive p)
@@ -70,8 +63,9 @@ abbrev mutual
   Legal before depth r (tailLoop l b c o) =
       Fit depth (tailLoop l b c o) × Legal before (suc depth) (asBody (l .scope) r) b × Legal before (suc depth) nowhere c × Legal before (suc depth) nowhere o
   Legal before depth r (timedLoop w o) = Fit depth (timedLoop w o) × Legal before (suc depth) nowhere o
+  -- "A call names a routine from 1 up to the one before its own"
   Legal before depth r (call k) = Fit depth (call k) × (1 ≤ k .routine) × (k .routine ≤ before)
-  Legal before depth r (marker m) = Fit depth (marker m) × (r ≡ lead)
+  Legal before depth r (marker m) = Fit depth (marker m) × (mayMark r ≡ true)
 
   -- the first at one reach, the later ones at another
   pub Legals : ℕ → ℕ → Reach → Reach → Constructs → Type 0
