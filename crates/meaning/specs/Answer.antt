@@ -15,8 +15,7 @@ use Rattle.meaning.specs.Judgement.{Reading, sheetAt}
 abbrev pub valueLimit : ℕ
 valueLimit = 1099511627775
 
--- A record that has ended: its place and its value.
-pub record Ended : Type 0 where
+pub record Ended : Type 0 where  -- a record that has ended
   pub place : ℕ
   pub value : ℕ
 

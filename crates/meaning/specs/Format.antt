@@ -8,13 +8,11 @@ use lib.Dec.{leb, eqb}
 use Rattle.meaning.specs.Tree.{Construct, Constructs, Routine, Sheet}
 use Rattle.meaning.specs.Tree.{primitive, sequence, alternative, headLoop, tailLoop, timedLoop, call, marker, end, _then_}
 
--- one of two, by a test
-abbrev pub pick : {A : Type 0} → Bool → A → A → A
+abbrev pub pick : {A : Type 0} → Bool → A → A → A  -- by a test
 pick true a b = a
 pick false a b = b
 
--- The range of a field.
-pub record Range : Type 0 where
+pub record Range : Type 0 where  -- of a field
   pub least : ℕ
   pub most : ℕ
 
@@ -68,15 +66,13 @@ lengthOf fields = 4 + 4 * fields
 abbrev pub within : Range → ℕ → Bool
 within r x = pick (leb (r .least) x) (leb x (r .most)) false
 
--- each field in its range
-unfoldable pub inRanges : List Range → List ℕ → Bool
+unfoldable pub inRanges : List Range → List ℕ → Bool  -- each field in its range
 inRanges [] [] = true
 inRanges [] (x ∷ xs) = false
 inRanges (r ∷ rs) [] = false
 inRanges (r ∷ rs) (x ∷ xs) = pick (within r x) (inRanges rs xs) false
 
--- A record: its kind and its fields.
-pub record Record : Type 0 where
+pub record Record : Type 0 where  -- as it stands in a sheet
   pub kind : ℕ
   pub fields : List ℕ
 

@@ -43,9 +43,8 @@ unfoldable pub fieldsAt : List ℕ → List Range → ℕ → List ℕ
 fieldsAt s [] at = []
 fieldsAt s (r ∷ rs) at = four s at ∷ fieldsAt s rs (at + 4)
 
--- What is owed at a place: the sheet record, a routine record, or a construct; of this the number of its routine, how many depths
--- are left (24 for a body, 0 at depth 25), its reach, and whether it is the last branch of an alternative whose other branches are
--- all marked, or the first child of that branch.
+-- What is owed at a place: the sheet, a routine, or a construct, with the number of its routine, the depths left (24 for a body, 0 at
+-- depth 25), its reach, and whether it is a last branch whose fellows are all marked, or stands first in one.
 pub data Owed : Type 0 where
   sheet routine : Owed
   construct : ℕ → ℕ → Reach → Bool → Owed
@@ -91,7 +90,7 @@ judged s owed at =
     (refuse (not (inRanges ranges (x .fields))) 6 at  -- BAD FIELD
     (placed owed x at (found x next))))))
 
--- How a construct is read by its reach and whether it is such a last branch or its first child.
+-- how a construct is read by its reach and by whether it is or stands first in such a last branch
 abbrev pub ConstructReader : Type 0
 ConstructReader = Reach → Bool → Reader Construct
 

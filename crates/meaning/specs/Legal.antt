@@ -9,8 +9,7 @@ use Rattle.meaning.specs.Tree.{Construct, Constructs, Routine, Sheet, ma
 use Rattle.meaning.specs.Tree.{primitive, sequence, alternative, headLoop, tailLoop, timedLoop, call, marker, end, _then_}
 use Rattle.meaning.specs.Format.{pick, InRange, sheetRows, routineRows, constructRows, recordOf, routineRecord, sheetRecord}
 
--- How a construct lies: in a scope to which a marker here would belong; inside an alternative of that scope; as a branch; as the first
--- child of a sequence that is a branch.
+-- How a construct lies: in a scope to which its marker would belong; inside an alternative of that scope; as a branch; first in a branch.
 pub record Reach : Type 0 where
   pub scope : Bool
   pub alternative : Bool
@@ -41,8 +40,7 @@ abbrev pub asBody : Bool → Reach → Reach
 asBody true r = record { scope = true; alternative = false; branch = false; lead = false }
 asBody false r = record { scope = pick (r .alternative) false (r .scope); alternative = r .alternative; branch = false; lead = false }
 
--- some branch is plain
-abbrev pub Plain : Constructs → Type 0
+abbrev pub Plain : Constructs → Type 0  -- some branch is plain
 Plain end = ⊥
 Plain (b then bs) = (mark b ≡ none) ⊎ Plain bs
 

@@ -29,14 +29,10 @@ mutual
   pub data Construct : Type 0 where
     primitive : Primitive → Construct
     sequence : Constructs → Construct
-    -- condition, then n branches
-    alternative : Construct → Constructs → Construct
-    -- init, condition, body, overrun
-    headLoop : Loop → Construct → Construct → Construct → Construct → Construct
-    -- body, condition, overrun
-    tailLoop : Loop → Construct → Construct → Construct → Construct
-    -- timeout statement
-    timedLoop : Timed → Construct → Construct
+    alternative : Construct → Constructs → Construct  -- condition, n branches
+    headLoop : Loop → Construct → Construct → Construct → Construct → Construct  -- init, condition, body, overrun
+    tailLoop : Loop → Construct → Construct → Construct → Construct  -- body, condition, overrun
+    timedLoop : Timed → Construct → Construct  -- timeout statement
     call : Call → Construct
     marker : Marker → Construct
 
@@ -44,13 +40,11 @@ mutual
     end : Constructs
     _then_ : Construct → Constructs → Constructs
 
--- kind 1
-pub record Routine : Type 0 where
+pub record Routine : Type 0 where  -- kind 1
   pub organisation : ℕ
   pub body : Construct
 
--- kind 100
-pub record Sheet : Type 0 where
+pub record Sheet : Type 0 where  -- kind 100
   pub edition : ℕ
   pub routines : List Routine
 

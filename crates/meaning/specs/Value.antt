@@ -49,8 +49,7 @@ abbrev pub marked : Option Marker → ℕ → List Marked
 marked none excess = []
 marked (some m) excess = record { limit = m .limit; excess = excess } ∷ []
 
--- one evaluation of a loop's condition
-abbrev pub evaluation : Loop → ℕ → ℕ
+abbrev pub evaluation : Loop → ℕ → ℕ  -- one evaluation of a loop's condition
 evaluation l condition = condition
 
 -- "count x (body + condition) + overrun", and for a loop with scope 1 what its markers add

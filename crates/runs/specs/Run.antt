@@ -51,8 +51,7 @@ _⊕_ [] us = us
 _⊕_ (t ∷ ts) [] = t ∷ ts
 _⊕_ (t ∷ ts) (u ∷ us) = (t + u) ∷ (ts ⊕ us)
 
--- place by place at most
-pub data Within : List ℕ → List ℕ → Type 0 where
+pub data Within : List ℕ → List ℕ → Type 0 where  -- place by place at most
   empty : Within [] []
   both : {t l : ℕ} {ts ls : List ℕ} → t ≤ l → Within ts ls → Within (t ∷ ts) (l ∷ ls)
 
@@ -94,8 +93,7 @@ mutual
     -- "A call runs the named routine, organisation and then body, and starts afresh."
     enter : {k : Call} {n : ℕ} → numbered (world .earlier) (k .routine) Never n → Run world (call k) n []
 
-  -- the children of a sequence, in order
-  pub data Runs (world : World) : Constructs → ℕ → Tally → Type 0 where
+  pub data Runs (world : World) : Constructs → ℕ → Tally → Type 0 where  -- the children of a sequence, in order
     done : Runs world end 0 []
     next : {c : Construct} {cs : Constructs} {n x y : ℕ} {t u v : Tally} →
         Run world c x u → Runs world cs y v → n ≡ x + y → t ≡ u ++ v → Runs world (c then cs) n t
@@ -115,14 +113,12 @@ mutual
     overrun : {l : Loop} {b c o : Construct} {least n x y : ℕ} {t u : Tally} →
         least ≤ l .count → Again world l b c (l .count) x u → Entry l b u t → Run world o y [] → n ≡ x + y → Rounds world l b c o least n t
 
-  -- body and condition together, k times
-  pub data Again (world : World) : Loop → Construct → Construct → ℕ → ℕ → Tally → Type 0 where
+  pub data Again (world : World) : Loop → Construct → Construct → ℕ → ℕ → Tally → Type 0 where  -- body and condition together, k times
     stop : {l : Loop} {b c : Construct} {t : Tally} → t ≡ never (limits b) → Again world l b c 0 0 t
     again : {l : Loop} {b c : Construct} {k n x y z : ℕ} {t u v : Tally} →
         Run world b x u → Tested world l c y → Again world l b c k z v → n ≡ x + y + z → t ≡ u ⊕ v → Again world l b c (suc k) n t
 
-  -- one evaluation of a loop's condition
-  pub data Tested (world : World) : Loop → Construct → ℕ → Type 0 where
+  pub data Tested (world : World) : Loop → Construct → ℕ → Type 0 where  -- one evaluation of a loop's condition
     tested : {l : Loop} {c : Construct} {n : ℕ} → Run world c n [] → Tested world l c n
 
 -- a routine: "organisation and then body"
