@@ -1,0 +1,12 @@
+pub mod Laws
+pub mod Span
+pub mod Records
+pub mod Good
+pub mod Sheets
+pub mod Here
+pub mod Back
+pub mod Outcome
+pub mod Written
+pub mod RoundTrip
+pub mod Demand
+pub mod Parts

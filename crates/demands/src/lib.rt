@@ -1,0 +1,1 @@
+// Definitions and the theorems about them: specs/ and proofs/. No code.

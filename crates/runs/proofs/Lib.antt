@@ -1,0 +1,10 @@
+pub mod Tallies
+pub mod Pays
+pub mod Counted
+pub mod Routines
+pub mod Sound
+pub mod Shape
+pub mod Plans
+pub mod Choices
+pub mod Reached
+pub mod Examples
