@@ -16,7 +16,7 @@ use Rattle.meaning.specs.Format.{recordBytes, bytes, bytesIn, routineBytes, rou
 use Rattle.meaning.specs.Legal.{Reach, mayMark, nowhere, firstChild, laterChild, asBranch, asBody, Plain, Fit, Legal, Legals, LegalRoutines, LegalSheet}
 use Rattle.meaning.specs.Judgement.{found, refuse, construct, routine, sheet, badCall, stray, noPlain, ConstructReader, list, isMarked, branches}
 use Rattle.meaning.specs.Judgement.{sequenceAt, alternativeAt, headLoopAt, tailLoopAt, timedLoopAt, owned, constructAt, routineAt, routinesAt, sheetAt}
-use Rattle.demands.proofs.Laws.{pick-true}
+use Rattle.meaning.proofs.Laws.{pick-true}
 use Rattle.demands.proofs.Here.{here-all, here-left, here-right, ReadBack, read-none, read-alone, read-then, read-last, record-back}
 
 -- What rule 10 asks: the last branch, where those before are all marked, is plain, and its first child is no marker.

@@ -16,7 +16,7 @@ use Rattle.runs.specs.Run.{RoutineTakes, SheetTakes}
 use Rattle.runs.specs.Premise.{SingleSheet}
 use Rattle.runs.proofs.Sound.{sheet-sound}
 use Rattle.runs.proofs.Reached.{length-bounds, sheet-reached}
-use Rattle.demands.proofs.Laws.{pick-true}
+use Rattle.meaning.proofs.Laws.{pick-true}
 use Rattle.demands.proofs.Outcome.{not-accepted, accepted-same, Answered, a-refusal, a-bound, answered}
 use Rattle.demands.proofs.RoundTrip.{accepted-good}
 

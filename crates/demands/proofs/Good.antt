@@ -13,7 +13,8 @@ use Rattle.meaning.specs.Tree.{primitive, sequence, alternative, headLoop, tail
 use Rattle.meaning.specs.Format.{pick, constructRows, Record, InRange, flag, howMany, recordOf, recordBytes, bytes, bytesIn}
 use Rattle.meaning.specs.Legal.{Reach, nowhere, firstChild, laterChild, asBranch, asBody, Plain, Fit, Legal, Legals}
 use Rattle.meaning.specs.Judgement.{construct, ConstructReader, list, isMarked, branches, sequenceAt, alternativeAt, headLoopAt, tailLoopAt, timedLoopAt, owned, constructAt}
-use Rattle.demands.proofs.Laws.{pick-false, Found, not-read, was-read, found-then}
+use Rattle.meaning.proofs.Laws.{pick-false}
+use Rattle.demands.proofs.Found.{Found, not-read, was-read, found-then}
 use Rattle.demands.proofs.Span.{Span, span-none, span-then}
 use Rattle.demands.proofs.Records.{Judged, judged-good, Sort, sort, a-primitive, a-sequence, an-alternative, a-head-loop, a-tail-loop, a-timed-loop, a-call, a-marker}
 

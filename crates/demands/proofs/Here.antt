@@ -9,7 +9,7 @@ use borrow.Author.Tests.{le-ltb, eq-eqb}
 use native.Mathlib.Omega.{arith}
 use Rattle.meaning.specs.Format.{Range, within, rangesOf, listed, lengthOf, inRanges, InRange, Record, half, word, words, recordBytes}
 use Rattle.meaning.specs.Judgement.{Reading, found, Reader, _>>=_, refuse, two, four, fieldsAt, Owed, rowsOf, placed, judged}
-use Rattle.demands.proofs.Laws.{pick-true, in-ranges-length, length-record}
+use Rattle.meaning.proofs.Laws.{pick-true, in-ranges-length, length-record}
 
 -- From a place on, s has the bytes xs: before them it has as many bytes as the place says.
 pub record Here (s : List ℕ) (place : ℕ) (xs : List ℕ) : Type 0 where

@@ -1,4 +1,4 @@
-pub mod Laws
+pub mod Found
 pub mod Span
 pub mod Records
 pub mod Good

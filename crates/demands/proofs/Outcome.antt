@@ -14,7 +14,7 @@ use Rattle.meaning.specs.Format.{pick}
 use Rattle.meaning.specs.Value.{taskBound}
 use Rattle.meaning.specs.Judgement.{Reading, found, sheetAt}
 use Rattle.meaning.specs.Answer.{valueLimit, Ended, endedOf, tooBig, Verdict, accepted, refused, sized, judgement, outcome, told, answer, boundIn, stored, tableAfter}
-use Rattle.demands.proofs.Laws.{Listed, Found, not-read, was-read}
+use Rattle.demands.proofs.Found.{Listed, Found, not-read, was-read}
 use Rattle.demands.proofs.Sheets.{good-sheet}
 
 -- what becomes of the bytes s

@@ -10,7 +10,7 @@ use native.Mathlib.Nat.{lt-of-not-le}
 use Rattle.meaning.specs.Tree.{Routine, Sheet}
 use Rattle.meaning.specs.Format.{sheetRecord, recordBytes, routineBytes, routinesBytes, bytesOf}
 use Rattle.meaning.specs.Answer.{Verdict, accepted, refused, outcome, emptyPart, routinePlace, partIn, partOf, routinePart}
-use Rattle.demands.proofs.Laws.{length-record}
+use Rattle.meaning.proofs.Laws.{length-record}
 use Rattle.demands.proofs.Span.{AreBytes}
 use Rattle.demands.proofs.RoundTrip.{accepted-good}
 

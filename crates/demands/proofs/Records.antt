@@ -9,7 +9,8 @@ use native.Mathlib.Omega.{arith}
 use borrow.Author.Tests.{ltb-false, leb-true, eqb-true, not-false}
 use Rattle.meaning.specs.Format.{pick, Range, _to_, Row, sheetRows, routineRows, constructRows, listed, rangesOf, lengthOf, within, inRanges, Record, field, InRange, recordBytes}
 use Rattle.meaning.specs.Judgement.{found, two, Owed, sheet, routine, construct, rowsOf, badCall, stray, noPlain, placed, judged}
-use Rattle.demands.proofs.Laws.{pick-true, Found, was-read, found-unless}
+use Rattle.meaning.proofs.Laws.{pick-true}
+use Rattle.demands.proofs.Found.{Found, was-read, found-unless}
 use Rattle.demands.proofs.Span.{Span, span-record}
 
 -- rules 7 to 10 are kept

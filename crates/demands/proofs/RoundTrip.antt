@@ -9,7 +9,7 @@ use Rattle.meaning.specs.Format.{bytesOf}
 use Rattle.meaning.specs.Legal.{LegalSheet}
 use Rattle.meaning.specs.Judgement.{sheetAt}
 use Rattle.meaning.specs.Answer.{endedOf, accepted, outcome}
-use Rattle.demands.proofs.Laws.{Found, found-at}
+use Rattle.demands.proofs.Found.{Found, found-at}
 use Rattle.demands.proofs.Span.{AreBytes}
 use Rattle.demands.proofs.Sheets.{GoodSheet, good-sheet}
 use Rattle.demands.proofs.Back.{read-back}

@@ -11,7 +11,7 @@ use Rattle.meaning.specs.Tree.{Routine, Sheet}
 use Rattle.meaning.specs.Format.{sheetRows, routineRows, field, InRange, routineRecord, sheetRecord, recordBytes, routineBytes, routinesBytes, bytesOf}
 use Rattle.meaning.specs.Legal.{nowhere, Legal, LegalRoutines, LegalSheet}
 use Rattle.meaning.specs.Judgement.{sheet, routine, routineAt, routinesAt, sheetAt}
-use Rattle.demands.proofs.Laws.{Found, was-read, found-then, found-unless}
+use Rattle.demands.proofs.Found.{Found, was-read, found-then, found-unless}
 use Rattle.demands.proofs.Span.{AreBytes, Span, span-none, span-then}
 use Rattle.demands.proofs.Records.{judged-good, routine-is, sheet-is}
 use Rattle.demands.proofs.Good.{good}

@@ -11,7 +11,7 @@ use Rattle.meaning.specs.Tree.{Construct, Constructs, Routine, Sheet}
 use Rattle.meaning.specs.Tree.{primitive, sequence, alternative, headLoop, tailLoop, timedLoop, call, marker, end, _then_}
 use Rattle.meaning.specs.Format.{Range, within, rangesOf, lengthOf, inRanges, half, word, words, recordBytes, bytes, bytesIn, routineBytes, routinesBytes, bytesOf}
 use Rattle.meaning.specs.Legal.{Reach, Legal, Legals, LegalRoutines, LegalSheet}
-use Rattle.demands.proofs.Laws.{pick-true, in-ranges-length}
+use Rattle.meaning.proofs.Laws.{pick-true, in-ranges-length}
 use Rattle.demands.proofs.Span.{AreBytes}
 
 -- none; one more; one after the other

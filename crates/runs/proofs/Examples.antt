@@ -2,11 +2,11 @@
 use Prim.Native.Nat.{ℕ, zero, suc, _+_, _*_, _-_, _≤_, zero-le}
 use mathlib.Core.Path.{_≡_, refl}
 use mathlib.Core.Logic.{_⊎_, inl, inr, _↔_}
-use mathlib.Core.Bool.{false}
+use mathlib.Core.Bool.{true, false}
 use mathlib.Core.List.{[], _∷_}
 use native.Mathlib.Omega.{arith}
 use native.Mathlib.Nat.{le-refl, le-suc}
-use Rattle.meaning.specs.Tree.{Loop, Primitive, Construct, Sheet, primitive, end, _then_}
+use Rattle.meaning.specs.Tree.{Loop, Primitive, Construct, Constructs, Sheet, primitive, alternative, headLoop, end, _then_}
 use Rattle.meaning.specs.Format.{rangesOf, inRanges}
 use Rattle.meaning.specs.Legal.{LegalSheet}
 use Rattle.meaning.specs.Value.{pays, total, times, value, bound, bounds}
@@ -159,3 +159,32 @@ single = search arith
 pub attained : RoutineTakes (task limited) 1 7
 unfolding bounds bound value times total pays
 attained = sheet-reached (task limited) legal single 1 (omega arith) (omega arith)
+
+-- Case l: its bound is 130, and no run takes more than 70, since a round runs one branch. So the second half needs its premise.
+abbrev branches-l : Constructs
+branches-l = S (M 10 0 ∷ P 7 ∷ []) then S (M 10 0 ∷ P 6 ∷ []) then S [] then end
+
+abbrev loop-l : Loop
+loop-l = record { count = 10; scope = true }
+
+marked-only : {cost n : ℕ} {t : Tally} → Run begin (S (M 10 0 ∷ P cost ∷ [])) n t → n ≡ cost
+marked-only (children (next (pass e) (next r done e1 e2) e3 e4)) = let x = cost-only r in omega arith
+
+branch-most : {n : ℕ} {t u : Tally} → Taken begin branches-l n t u → n ≤ 7
+branch-most (this r e e') = let x = marked-only r in omega arith
+branch-most (other (this r e e') f f') = let x = marked-only r in omega arith
+branch-most (other (other (this (children done) e e') f f') g g') = omega arith
+
+round-most : {n : ℕ} {t : Tally} → Run begin (alternative (P 0) branches-l) n t → n ≤ 7
+round-most (choose r s e e') = let x = cost-only r in let y = branch-most s in omega arith
+
+rounds-most : {k n : ℕ} {t : Tally} → Again begin loop-l (alternative (P 0) branches-l) (P 0) k n t → n ≤ 7 * k
+rounds-most (stop e) = omega arith
+rounds-most (again r s a e e') = let x = round-most r in let y = test-only s in let z = rounds-most a in omega arith
+
+loop-most : {n : ℕ} {t : Tally} → Rounds begin loop-l (alternative (P 0) branches-l) (P 0) (S []) 0 n t → n ≤ 70
+loop-most (without h h' a e) = let x = rounds-most a in omega arith
+loop-most (overrun h a e (children done) e') = let x = rounds-most a in omega arith
+
+pub case-l : (n : ℕ) → Run begin (headLoop loop-l (P 0) (P 0) (alternative (P 0) branches-l) (S [])) n [] → n ≤ 70
+case-l n (head r s z e) = let x = cost-only r in let y = test-only s in let w = loop-most z in omega arith

@@ -11,11 +11,12 @@ use native.Mathlib.Nat.{le-refl}
 use borrow.Author.Tests.{leb-true}
 use Rattle.meaning.specs.Tree.{Loop, Construct, Constructs, Routine, Sheet, seenOutside}
 use Rattle.meaning.specs.Tree.{primitive, sequence, alternative, headLoop, tailLoop, timedLoop, call, marker, end, _then_}
-use Rattle.meaning.specs.Format.{pick, rangesOf, inRanges}
+use Rattle.meaning.specs.Format.{rangesOf, inRanges}
 use Rattle.meaning.specs.Value.{Marked, total, times, evaluation, rounds, Known, value, sum, largest}
 use Rattle.meaning.specs.Value.{markedIn, charges, chargesIn, bound, knowing, bounds, nothing, boundAt}
 use Rattle.meaning.specs.Legal.{Reach, nowhere, firstChild, laterChild, asBranch, asBody, Plain, Fit, Legal, Legals, LegalRoutines, LegalSheet}
-use Rattle.runs.specs.Run.{Tally, never, _⊕_, Within, empty, limits, limitsIn, handed, scope, World}
+use Rattle.meaning.proofs.Laws.{pick-true}
+use Rattle.runs.specs.Run.{Tally, never, _⊕_, Within, empty, limits, limitsIn, handed, scope, Spends, World}
 use Rattle.runs.specs.Run.{Run, Runs, Rounds, Again, Tested, Takes, takes, allowed, RoutineTakes}
 use Rattle.runs.specs.Run.{act, pass, children, choose, head, tail, timeout, enter, done, next, overrun, stop, again, tested}
 use Rattle.runs.specs.Premise.{One, Single, Singles, SingleRoutines, SingleSheet}
@@ -33,14 +34,14 @@ length-limits : (ms : List Marked) → length (allLimits ms) ≡ length ms
 length-limits [] = refl
 length-limits (m ∷ ms) = ap suc (length-limits ms)
 
--- the range of a tail loop's count starts at 1
-both-true : (a b : Bool) → pick a b false ≡ true → (a ≡ true) × (b ≡ true)
-both-true true b e = (refl, e)
-both-true false b e = (e, cc)
+-- the whole cost may be spent
+spends-all : (cost : ℕ) → Spends cost cost
+spends-all cost = refl
 
+-- the range of a tail loop's count starts at 1
 tail-count : (depth : ℕ) (l : Loop) (b c o : Construct) → Fit depth (tailLoop l b c o) → 1 ≤ l .count
 unfolding rangesOf inRanges
-tail-count depth l b c o fit = leb-true 1 (l .count) (both-true (leb 1 (l .count)) (leb (l .count) 1000000) (both-true _ _ (fit .0) .0) .0)
+tail-count depth l b c o fit = leb-true 1 (l .count) (pick-true (leb 1 (l .count)) (leb (l .count) 1000000) (pick-true _ _ (fit .0) .0) .0)
 
 module _ (world : World) (known : Known) where
   -- every plan for the markers of a construct is met: a run takes its value and what the plan costs, and keeps to the plan
@@ -161,7 +162,7 @@ module _ (world : World) (known : Known) (before : ℕ) (all : before ≡ length
     unfolding value limits
 
     meet : (depth : ℕ) (c : Construct) (r : Reach) → Legal before depth r c → Single c → Meets world known c
-    meet depth (primitive p) r h s = meet-bare world known (primitive p) (act refl) refl
+    meet depth (primitive p) r h s = meet-bare world known (primitive p) (act (spends-all (p .cost))) refl
     meet depth (sequence cs) r h s = λ q f.
         let y = meet-in (suc depth) cs (firstChild r) (laterChild r) (h .1) s q f in
         record { tally = y .tally; run = children (y .run); small = y .small }
@@ -185,7 +186,7 @@ module _ (world : World) (known : Known) (before : ℕ) (all : before ≡ length
     meet depth (timedLoop w o) r h s =
         meet-bare world known (timedLoop w o) (timeout (le-refl (w .time)) (alone (suc depth) o (h .1) (meet (suc depth) o nowhere (h .1) s)) refl) refl
     meet depth (call k) r h s = meet-bare world known (call k) (enter (along-at earlier (k .routine) (inr (omega arith)))) refl
-    meet depth (marker m) r h s = meet-bare world known (marker m) (pass refl) refl
+    meet depth (marker m) r h s = meet-bare world known (marker m) (pass (spends-all (m .cost))) refl
 
     meet-in : (depth : ℕ) (cs : Constructs) (f r : Reach) → Legals before depth f r cs → Singles cs → MeetsIn world known cs
     meet-in depth end f r h s = λ q g. rw (paired-nil (fits-paired g)) (record { tally = []; run = done; small = empty })
@@ -202,7 +203,7 @@ reached-routine : (world : World) (known : Known) (before : ℕ) → before ≡ 
     (r : Routine) → Legal before 1 nowhere (r .body) → Single (r .body) → Takes world r (bound known r)
 unfolding bound
 reached-routine world known before all earlier r h s =
-    takes refl (alone world known before all earlier 1 (r .body) h (meet world known before all earlier 1 (r .body) nowhere h s))
+    takes (spends-all (r .organisation)) (alone world known before all earlier 1 (r .body) h (meet world known before all earlier 1 (r .body) nowhere h s))
 
 reached-routines : {world : World} {known : Known} (before : ℕ) → before ≡ length (known .bounds) → (rs : List Routine) → LegalRoutines before rs →
     SingleRoutines rs → Along Attains (world .earlier) (known .bounds) → Along Attains ((allowed world rs) .earlier) ((bounds known rs) .bounds)
