@@ -18,7 +18,8 @@ pub found-then : {A B : Type 0} {P : A → ℕ → Type 0} {Q : B → ℕ → Ty
 found-then (not-read n) k = not-read n
 found-then (was-read {a = a} {past = past} h) k = k a past h
 
-pub found-unless : {A : Type 0} {P : A → ℕ → Type 0} (t : Bool) (number place : ℕ) {rest : Reading A} → Listed number → (t ≡ false → Found P rest) → Found P (refuse t number place rest)
+pub found-unless : {A : Type 0} {P : A → ℕ → Type 0} (t : Bool) (number place : ℕ) {rest : Reading A} → Listed number →
+    (t ≡ false → Found P rest) → Found P (refuse t number place rest)
 unfolding refuse
 found-unless true number place n k = not-read n
 found-unless false number place n k = k refl

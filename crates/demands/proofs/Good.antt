@@ -12,11 +12,13 @@ use Rattle.meaning.specs.Tree.{Marker, Loop, Construct, Constructs, itself, lea
 use Rattle.meaning.specs.Tree.{primitive, sequence, alternative, headLoop, tailLoop, timedLoop, call, marker, end, _then_}
 use Rattle.meaning.specs.Format.{pick, constructRows, Record, InRange, flag, howMany, recordOf, recordBytes, bytes, bytesIn}
 use Rattle.meaning.specs.Legal.{Reach, nowhere, firstChild, laterChild, asBranch, asBody, Plain, Fit, Legal, Legals}
-use Rattle.meaning.specs.Judgement.{construct, ConstructReader, list, isMarked, branches, sequenceAt, alternativeAt, headLoopAt, tailLoopAt, timedLoopAt, owned, constructAt}
+use Rattle.meaning.specs.Judgement.{construct, ConstructReader, list, isMarked, branches}
+use Rattle.meaning.specs.Judgement.{sequenceAt, alternativeAt, headLoopAt, tailLoopAt, timedLoopAt, owned, constructAt}
 use Rattle.meaning.proofs.Laws.{pick-false}
 use Rattle.demands.proofs.Found.{Found, not-read, was-read, found-then}
 use Rattle.demands.proofs.Span.{Span, span-none, span-then}
-use Rattle.demands.proofs.Records.{Judged, judged-good, Sort, sort, a-primitive, a-sequence, an-alternative, a-head-loop, a-tail-loop, a-timed-loop, a-call, a-marker}
+use Rattle.demands.proofs.Records.{Judged, judged-good, Sort, sort}
+use Rattle.demands.proofs.Records.{a-primitive, a-sequence, an-alternative, a-head-loop, a-tail-loop, a-timed-loop, a-call, a-marker}
 
 nonzero : (k : ℕ) → (k ≡ 0 → ⊥) → 1 ≤ k
 nonzero zero h = absurd (h refl)
@@ -52,7 +54,8 @@ module _ (s : List ℕ) (before own : ℕ) (number : own ≡ before + 1) where
   unfolding bytes
   no-goods depth f l at = record { legal = tt; many = refl; span = span-none s at }
 
-  more-goods : {depth n at next past : ℕ} {f l : Reach} {last : Bool} {c : Construct} {cs : Constructs} → Good depth f last at c next → Goods depth l l n next cs past → Goods depth f l (suc n) at (c then cs) past
+  more-goods : {depth n at next past : ℕ} {f l : Reach} {last : Bool} {c : Construct} {cs : Constructs} → Good depth f last at c next →
+      Goods depth l l n next cs past → Goods depth f l (suc n) at (c then cs) past
   unfolding bytes
   more-goods x y = record { legal = (x .legal, y .legal); many = ap suc (y .many); span = span-then (x .span) (y .span) }
 
@@ -62,7 +65,8 @@ module _ (s : List ℕ) (before own : ℕ) (number : own ≡ before + 1) where
   abbrev GoodList : ℕ → Reach → Bool → Reach → ℕ → ℕ → Constructs → ℕ → Type 0
   GoodList depth f last l n at cs past = Goods depth f l n at cs past × (last ≡ true → leading cs ≡ none)
 
-  good-list : (depth : ℕ) (read : ConstructReader) → GoodReader depth read → (f : Reach) (last : Bool) (l : Reach) (n at : ℕ) → Found (GoodList depth f last l n at) (list read f last l n at)
+  good-list : (depth : ℕ) (read : ConstructReader) → GoodReader depth read → (f : Reach) (last : Bool) (l : Reach) (n at : ℕ) →
+      Found (GoodList depth f last l n at) (list read f last l n at)
   unfolding list
   good-list depth read g f last l zero at = was-read (no-goods depth f l at, λ _. refl)
   good-list depth read g f last l (suc n) at =
@@ -72,7 +76,8 @@ module _ (s : List ℕ) (before own : ℕ) (number : own ≡ before + 1) where
   abbrev GoodBranches : ℕ → Reach → Bool → ℕ → ℕ → Constructs → ℕ → Type 0
   GoodBranches depth r marked n at bs past = Goods depth (asBranch r) (asBranch r) n at bs past × (marked ≡ true → 1 ≤ n → Plain bs)
 
-  some-plain : (n : ℕ) (marked : Bool) (b : Construct) (bs : Constructs) → marked ≡ true → (pick (eqb n 0) marked false ≡ true → Unmarked b) → (pick marked (isMarked (mark b)) false ≡ true → 1 ≤ n → Plain bs) → (mark b ≡ none) ⊎ Plain bs
+  some-plain : (n : ℕ) (marked : Bool) (b : Construct) (bs : Constructs) → marked ≡ true →
+      (pick (eqb n 0) marked false ≡ true → Unmarked b) → (pick marked (isMarked (mark b)) false ≡ true → 1 ≤ n → Plain bs) → (mark b ≡ none) ⊎ Plain bs
   some-plain zero marked b bs q h k = inl (h q .1)
   some-plain (suc n) marked b bs q h k = go (isMarked (mark b)) refl
     where
@@ -80,7 +85,8 @@ module _ (s : List ℕ) (before own : ℕ) (number : own ≡ before + 1) where
       go true e = inr (k (rw (q, e)) (omega arith))
       go false e = inl (unmarked (mark b) e)
 
-  good-branches : (depth : ℕ) (read : ConstructReader) → GoodReader depth read → (r : Reach) (marked : Bool) (n at : ℕ) → Found (GoodBranches depth r marked n at) (branches read r marked n at)
+  good-branches : (depth : ℕ) (read : ConstructReader) → GoodReader depth read → (r : Reach) (marked : Bool) (n at : ℕ) →
+      Found (GoodBranches depth r marked n at) (branches read r marked n at)
   unfolding branches
   good-branches depth read g r marked zero at = was-read (no-goods depth (asBranch r) (asBranch r) at, λ _ h. absurd (omega arith))
   good-branches depth read g r marked (suc n) at =
@@ -100,7 +106,10 @@ module _ (s : List ℕ) (before own : ℕ) (number : own ≡ before + 1) where
     module _ (read : ConstructReader) (g : GoodReader (suc depth) read) where
       good-owned : {x : Record} → Sort x → Judged s (construct own left r last) at x next → Found (Good depth r last at) (owned read r last x next)
       unfolding bytes sequenceAt alternativeAt headLoopAt tailLoopAt timedLoopAt
-      good-owned (a-primitive a) j = let c = primitive (record { cost = a }) in let h = headed j c refl in was-read {a = c} (record { legal = h .fit; plain = λ _. (refl, refl); span = h .span })
+      good-owned (a-primitive a) j =
+          let c = primitive (record { cost = a }) in
+          let h = headed j c refl in
+          was-read {a = c} (record { legal = h .fit; plain = λ _. (refl, refl); span = h .span })
       good-owned (a-sequence n) j =
           found-then (good-list (suc depth) read g (firstChild r) last (laterChild r) n next) (λ cs past y.
           let h = headed j (sequence cs) (ap (λ z. record { kind = 3; fields = z ∷ [] }) (y .0 .many)) in

@@ -20,15 +20,18 @@ append-routines [] ys = refl
 append-routines (x ∷ xs) ys = rw (append-routines xs ys, append-assoc)
 
 -- the routines before one, that one, and those behind it
-split : (rs : List Routine) (i : ℕ) (other : Routine) → i < length rs → routinesBytes rs ≡ routinesBytes (take i rs) ++ (routineBytes (getD rs i other) ++ routinesBytes (drop (suc i) rs))
+split : (rs : List Routine) (i : ℕ) (other : Routine) → i < length rs →
+    routinesBytes rs ≡ routinesBytes (take i rs) ++ (routineBytes (getD rs i other) ++ routinesBytes (drop (suc i) rs))
 unfolding routinesBytes
 split rs i other h = ap routinesBytes (split-at rs i other h) ∙ append-routines (take i rs) (getD rs i other ∷ drop (suc i) rs)
 
-long : (rs : List Routine) (i : ℕ) (other : Routine) → i < length rs → length (routinesBytes (take (suc i) rs)) ≡ length (routinesBytes (take i rs)) + length (routineBytes (getD rs i other))
+long : (rs : List Routine) (i : ℕ) (other : Routine) → i < length rs →
+    length (routinesBytes (take (suc i) rs)) ≡ length (routinesBytes (take i rs)) + length (routineBytes (getD rs i other))
 unfolding routinesBytes
 long rs i other h =
     let r = getD rs i other in
-    ap (λ z. length (routinesBytes z)) (take-suc rs i other h) ∙ ap length (append-routines (take i rs) (r ∷ [])) ∙ length-append (routinesBytes (take i rs)) (routineBytes r ++ [])
+    ap (λ z. length (routinesBytes z)) (take-suc rs i other h) ∙ ap length (append-routines (take i rs) (r ∷ []))
+    ∙ length-append (routinesBytes (take i rs)) (routineBytes r ++ [])
     ∙ ap (λ z. length (routinesBytes (take i rs)) + length z) (append-nil (routineBytes r))
 
 pub part-is : (s : List ℕ) → AreBytes s → (t : Sheet) → outcome s ≡ accepted t → (i : ℕ) (other : Routine) → i < length (t .routines) →

@@ -7,7 +7,8 @@ use lib.ListN.{length, getD}
 use lib.Dec.{leb, eqb}
 use native.Mathlib.Omega.{arith}
 use borrow.Author.Tests.{ltb-false, leb-true, eqb-true, not-false}
-use Rattle.meaning.specs.Format.{pick, Range, _to_, Row, sheetRows, routineRows, constructRows, listed, rangesOf, lengthOf, within, inRanges, Record, field, InRange, recordBytes}
+use Rattle.meaning.specs.Format.{pick, Range, _to_, Row, sheetRows, routineRows, constructRows, listed, rangesOf, lengthOf}
+use Rattle.meaning.specs.Format.{within, inRanges, Record, field, InRange, recordBytes}
 use Rattle.meaning.specs.Judgement.{found, two, Owed, sheet, routine, construct, rowsOf, badCall, stray, noPlain, placed, judged}
 use Rattle.meaning.proofs.Laws.{pick-true}
 use Rattle.demands.proofs.Found.{Found, was-read, found-unless}
@@ -54,17 +55,17 @@ abbrev of : ℕ → List ℕ → Record
 of kind fields = record { kind = kind; fields = fields }
 
 -- What holds of each row's records holds of a record that is listed and in range.
-abbrev Each : (Record → Type 0) → List Row → Type 0
+abbrev pub Each : (Record → Type 0) → List Row → Type 0
 Each P [] = Unit {0}
 Each P (r ∷ rs) = ((fields : List ℕ) → inRanges (r .ranges) fields ≡ true → P (of (r .kind) fields)) × Each P rs
 
-by-rows : (P : Record → Type 0) (rows : List Row) → Each P rows → (x : Record) → listed (x .kind) rows ≡ true → InRange rows x → P x
+pub by-rows : (P : Record → Type 0) (rows : List Row) → Each P rows → (x : Record) → listed (x .kind) rows ≡ true → InRange rows x → P x
 unfolding listed rangesOf
 by-rows P [] each x h range = absurd (false≢true h)
 by-rows P (r ∷ rs) each x h range = go (eqb (x .kind) (r .kind)) refl h range (by-rows P rs (each .1) x)
   where
-    go : (t : Bool) → eqb (x .kind) (r .kind) ≡ t → pick t true (listed (x .kind) rs) ≡ true → inRanges (pick t (r .ranges) (rangesOf (x .kind) rs)) (x .fields) ≡ true →
-        (listed (x .kind) rs ≡ true → InRange rs x → P x) → P x
+    go : (t : Bool) → eqb (x .kind) (r .kind) ≡ t → pick t true (listed (x .kind) rs) ≡ true →
+        inRanges (pick t (r .ranges) (rangesOf (x .kind) rs)) (x .fields) ≡ true → (listed (x .kind) rs ≡ true → InRange rs x → P x) → P x
     go true e h range rest = subst (λ k. P (of k (x .fields))) (sym (eqb-true (x .kind) (r .kind) e)) (each .0 (x .fields) range)
     go false e h range rest = rest h range
 

@@ -26,4 +26,6 @@ round-trip s are t = (to, from)
     to e = let a = accepted-is s t .0 e in let g = accepted-good s t e in (g .same are, g .legal, a .short, a .small)
 
     from : (s ≡ bytesOf t) × LegalSheet t × (length s ≤ 60000) × Small (endedOf t) → outcome s ≡ accepted t
-    from (e, legal, short, small) = accepted-is s t .1 (record { short = short; past = length (bytesOf t); read = ap (λ z. sheetAt z 0) e ∙ read-back t legal; small = small })
+    from (e, legal, short, small) =
+        let read = ap (λ z. sheetAt z 0) e ∙ read-back t legal in
+        accepted-is s t .1 (record { short = short; past = length (bytesOf t); read = read; small = small })

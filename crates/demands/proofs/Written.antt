@@ -1,6 +1,6 @@
 -- The bytes of a legal sheet are bytes: each number is below 256.
 use Prim.Native.Nat.{ℕ, zero, suc, _+_, _≤_, _<_}
-use mathlib.Core.Path.{_≡_}
+use mathlib.Core.Path.{_≡_, refl}
 use mathlib.Core.Bool.{true, false≢true}
 use mathlib.Core.List.{List, [], _∷_, _++_}
 use lib.ListN.{length, getD}
@@ -9,10 +9,12 @@ use borrow.Author.Tests.{leb-true}
 use native.Mathlib.Omega.{arith}
 use Rattle.meaning.specs.Tree.{Construct, Constructs, Routine, Sheet}
 use Rattle.meaning.specs.Tree.{primitive, sequence, alternative, headLoop, tailLoop, timedLoop, call, marker, end, _then_}
-use Rattle.meaning.specs.Format.{Range, within, rangesOf, lengthOf, inRanges, half, word, words, recordBytes, bytes, bytesIn, routineBytes, routinesBytes, bytesOf}
+use Rattle.meaning.specs.Format.{Range, Row, sheetRows, routineRows, constructRows, listed, within, lengthOf, inRanges, Record, InRange}
+use Rattle.meaning.specs.Format.{recordOf, routineRecord, sheetRecord, half, word, words, recordBytes, bytes, bytesIn, routineBytes, routinesBytes, bytesOf}
 use Rattle.meaning.specs.Legal.{Reach, Legal, Legals, LegalRoutines, LegalSheet}
 use Rattle.meaning.proofs.Laws.{pick-true, in-ranges-length}
 use Rattle.demands.proofs.Span.{AreBytes}
+use Rattle.demands.proofs.Records.{Each, by-rows}
 
 -- none; one more; one after the other
 are-none : AreBytes []
@@ -50,41 +52,60 @@ are-fields (r ∷ rs) (x ∷ xs) w h =
     let small = leb-true x (r .most) (pick-true (leb (r .least) x) (leb x (r .most)) a .1) in
     are-then (are-word x (omega arith)) (are-fields rs xs (w .1) b)
 
-are-record : (kind : ℕ) (ranges : List Range) (fields : List ℕ) → kind < 65536 → length ranges ≤ 16 → Wide ranges → inRanges ranges fields ≡ true →
-    AreBytes (recordBytes (record { kind = kind; fields = fields }))
-unfolding recordBytes
-are-record kind ranges fields k l w h =
-    let n = in-ranges-length ranges fields h in
-    are-then (are-half (lengthOf (length fields)) (omega arith)) (are-then (are-half kind k) (are-fields ranges fields w h))
+-- a record of a row whose kind has two bytes, and which is short
+abbrev WideRows : List Row → Type 0
+WideRows [] = Unit {0}
+WideRows (r ∷ rs) = (r .kind < 65536) × (length (r .ranges) ≤ 16) × Wide (r .ranges) × WideRows rs
 
+wide-rows : (rows : List Row) → WideRows rows → Each (λ x. AreBytes (recordBytes x)) rows
+unfolding recordBytes
+wide-rows [] w = tt
+wide-rows (r ∷ rs) w = (one-row, wide-rows rs (w .3))
+  where
+    one-row : (fields : List ℕ) → inRanges (r .ranges) fields ≡ true → AreBytes (recordBytes (record { kind = r .kind; fields = fields }))
+    one-row fields h =
+        let short = w .1 in
+        let n = in-ranges-length (r .ranges) fields h in
+        are-then (are-half (lengthOf (length fields)) (omega arith)) (are-then (are-half (r .kind) (w .0)) (are-fields (r .ranges) fields (w .2) h))
+
+are-record : (rows : List Row) → WideRows rows → (x : Record) → listed (x .kind) rows ≡ true → InRange rows x → AreBytes (recordBytes x)
+are-record rows w = by-rows (λ x. AreBytes (recordBytes x)) rows (wide-rows rows w)
+
+are-head : (c : Construct) → listed (recordOf c .kind) constructRows ≡ true → InRange constructRows (recordOf c) → AreBytes (recordBytes (recordOf c))
+are-head c = are-record constructRows (omega arith) (recordOf c)
+
+-- constructs, routines and the sheet
 mutual
-  unfolding bytes rangesOf
+  unfolding bytes listed
 
   are : (before depth : ℕ) (r : Reach) (c : Construct) → Legal before depth r c → AreBytes (bytes c)
-  are before depth r (primitive p) h = are-record 2 _ _ (omega arith) (omega arith) (omega arith) (h .0)
-  are before depth r (sequence cs) h = are-then (are-record 3 _ _ (omega arith) (omega arith) (omega arith) (h .0 .0)) (are-in before (suc depth) _ _ cs (h .1))
+  are before depth r (primitive p) h = are-head (primitive p) refl (h .0)
+  are before depth r (sequence cs) h = are-then (are-head (sequence cs) refl (h .0 .0)) (are-in before (suc depth) _ _ cs (h .1))
   are before depth r (alternative c bs) h =
-      are-then (are-record 4 _ _ (omega arith) (omega arith) (omega arith) (h .0 .0)) (are-then (are before (suc depth) _ c (h .1)) (are-in before (suc depth) _ _ bs (h .2)))
+      are-then (are-head (alternative c bs) refl (h .0 .0)) (are-then (are before (suc depth) _ c (h .1)) (are-in before (suc depth) _ _ bs (h .2)))
   are before depth r (headLoop l i c b o) h =
-      are-then (are-record 5 _ _ (omega arith) (omega arith) (omega arith) (h .0 .0))
-      (are-then (are before (suc depth) _ i (h .1)) (are-then (are before (suc depth) _ c (h .2)) (are-then (are before (suc depth) _ b (h .3)) (are before (suc depth) _ o (h .4)))))
+      are-then (are-head (headLoop l i c b o) refl (h .0 .0))
+      (are-then (are before (suc depth) _ i (h .1))
+      (are-then (are before (suc depth) _ c (h .2))
+      (are-then (are before (suc depth) _ b (h .3)) (are before (suc depth) _ o (h .4)))))
   are before depth r (tailLoop l b c o) h =
-      are-then (are-record 6 _ _ (omega arith) (omega arith) (omega arith) (h .0 .0))
+      are-then (are-head (tailLoop l b c o) refl (h .0 .0))
       (are-then (are before (suc depth) _ b (h .1)) (are-then (are before (suc depth) _ c (h .2)) (are before (suc depth) _ o (h .3))))
-  are before depth r (timedLoop w o) h = are-then (are-record 7 _ _ (omega arith) (omega arith) (omega arith) (h .0 .0)) (are before (suc depth) _ o (h .1))
-  are before depth r (call k) h = are-record 8 _ _ (omega arith) (omega arith) (omega arith) (h .0 .0)
-  are before depth r (marker m) h = are-record 9 _ _ (omega arith) (omega arith) (omega arith) (h .0 .0)
+  are before depth r (timedLoop w o) h = are-then (are-head (timedLoop w o) refl (h .0 .0)) (are before (suc depth) _ o (h .1))
+  are before depth r (call k) h = are-head (call k) refl (h .0 .0)
+  are before depth r (marker m) h = are-head (marker m) refl (h .0 .0)
 
   are-in : (before depth : ℕ) (f l : Reach) (cs : Constructs) → Legals before depth f l cs → AreBytes (bytesIn cs)
   are-in before depth f l end h = are-none
   are-in before depth f l (c then cs) h = are-then (are before depth f c (h .0)) (are-in before depth l l cs (h .1))
 
 are-routines : (before : ℕ) (rs : List Routine) → LegalRoutines before rs → AreBytes (routinesBytes rs)
-unfolding routinesBytes routineBytes rangesOf
+unfolding routinesBytes routineBytes listed
 are-routines before [] h = are-none
 are-routines before (r ∷ rs) h =
-    are-then (are-then (are-record 1 _ _ (omega arith) (omega arith) (omega arith) (h .0)) (are before 1 _ (r .body) (h .1))) (are-routines (before + 1) rs (h .2))
+    let own = are-record routineRows (omega arith) (routineRecord r) refl (h .0) in
+    are-then (are-then own (are before 1 _ (r .body) (h .1))) (are-routines (before + 1) rs (h .2))
 
 pub are-bytes : (t : Sheet) → LegalSheet t → AreBytes (bytesOf t)
-unfolding bytesOf rangesOf
-are-bytes t h = are-then (are-record 100 _ _ (omega arith) (omega arith) (omega arith) (h .0)) (are-routines 0 (t .routines) (h .1))
+unfolding bytesOf listed
+are-bytes t h = are-then (are-record sheetRows (omega arith) (sheetRecord t) refl (h .0)) (are-routines 0 (t .routines) (h .1))
