@@ -1,3 +1,9 @@
 pub mod Notation
+pub mod Rows
 pub mod Cases
+pub mod Markers
+pub mod Faults
+pub mod Edges
+pub mod Values
+pub mod Returns
 pub mod Laws

@@ -6,10 +6,11 @@ use mathlib.Core.Bool.{true, false}
 use mathlib.Core.List.{[], _∷_}
 use native.Mathlib.Omega.{arith}
 use native.Mathlib.Nat.{le-refl, le-suc}
-use Rattle.meaning.specs.Tree.{Loop, Primitive, Construct, Constructs, Sheet, primitive, alternative, headLoop, end, _then_}
+use Rattle.meaning.specs.Tree.{Loop, Primitive, Construct, Constructs, Sheet, primitive, alternative, end, _then_}
 use Rattle.meaning.specs.Format.{rangesOf, inRanges}
 use Rattle.meaning.specs.Legal.{LegalSheet}
 use Rattle.meaning.specs.Value.{pays, total, times, value, bound, bounds}
+use Rattle.meaning.proofs.Cases.{l}
 use Rattle.meaning.proofs.Notation.{P, S, A, H, H*, T, W, M, R, sheet}
 use Rattle.runs.specs.Run.{Tally, never, _⊕_, empty, both, limits, handed, scope, World}
 use Rattle.runs.specs.Run.{Run, Taken, Rounds, Again, Tested, takes, allowed, begin, RoutineTakes}
@@ -175,16 +176,15 @@ branch-most (this r e e') = let x = marked-only r in omega arith
 branch-most (other (this r e e') f f') = let x = marked-only r in omega arith
 branch-most (other (other (this (children done) e e') f f') g g') = omega arith
 
-round-most : {n : ℕ} {t : Tally} → Run begin (alternative (P 0) branches-l) n t → n ≤ 7
-round-most (choose r s e e') = let x = cost-only r in let y = branch-most s in omega arith
-
 rounds-most : {k n : ℕ} {t : Tally} → Again begin loop-l (alternative (P 0) branches-l) (P 0) k n t → n ≤ 7 * k
 rounds-most (stop e) = omega arith
-rounds-most (again r s a e e') = let x = round-most r in let y = test-only s in let z = rounds-most a in omega arith
+rounds-most (again (choose r s f f') c a e e') =
+    let w = cost-only r in let x = branch-most s in let y = test-only c in let z = rounds-most a in
+    omega arith
 
 loop-most : {n : ℕ} {t : Tally} → Rounds begin loop-l (alternative (P 0) branches-l) (P 0) (S []) 0 n t → n ≤ 70
 loop-most (without h h' a e) = let x = rounds-most a in omega arith
 loop-most (overrun h a e (children done) e') = let x = rounds-most a in omega arith
 
-pub case-l : (n : ℕ) → Run begin (headLoop loop-l (P 0) (P 0) (alternative (P 0) branches-l) (S [])) n [] → n ≤ 70
+pub case-l : (n : ℕ) → Run begin l n [] → n ≤ 70
 case-l n (head r s z e) = let x = cost-only r in let y = test-only s in let w = loop-most z in omega arith

@@ -1,0 +1,87 @@
+-- Document 01, "What comes back": the table after, the routine part, and a refusal's bound. "The sheet": lengths, and case b in bytes.
+use Prim.Native.Nat.{ℕ, zero, suc}
+use mathlib.Core.Path.{_≡_, refl}
+use mathlib.Core.List.{List, [], _∷_, _++_, map}
+use lib.ListN.{length}
+use Rattle.meaning.specs.Format.{sheetRows, routineRows, constructRows, lengthOf, routineBytes}
+use Rattle.meaning.specs.Answer.{boundIn, tableAfter, Part, partOf, routinePart, answer}
+use Rattle.meaning.proofs.Notation.{P, S, T, C, R}
+use Rattle.meaning.proofs.Rows.{routines, answers}
+
+-- a table in which every place differs: n, n - 1 and so on
+abbrev lent : ℕ → List ℕ
+lent zero = []
+lent (suc n) = suc n ∷ lent n
+
+-- two routines, from 12 to 28 and from 28 to 52
+abbrev good : List ℕ
+good = routines (R 3 (P 1) ∷ R 5 (S (C 1 ∷ [])) ∷ [])
+
+-- the second calls itself: BAD CALL
+abbrev bad : List ℕ
+bad = routines (R 3 (P 1) ∷ R 5 (S (C 2 ∷ [])) ∷ [])
+
+-- the second routine is TOO BIG
+abbrev large : List ℕ
+large = routines (R 3 (P 1) ∷ R 0 (T 257 (P 4294967295) (P 0) (S [])) ∷ [])
+
+-- A sheet, the lent table, and the table after.
+pub record Lending : Type 0 where
+  pub sheet : List ℕ
+  pub before : List ℕ
+  pub after : List ℕ
+
+abbrev lending : List ℕ → List ℕ → List ℕ → Lending
+lending sheet before after = record { sheet = sheet; before = before; after = after }
+
+pub lendings : List Lending
+lendings =
+    lending good (lent 64) (4 ∷ 9 ∷ lent 62)  -- accepted: "the first places, one per routine in order", and "every later place is unchanged"
+    ∷ lending good (lent 65) (4 ∷ 9 ∷ lent 63)  -- a longer table
+    ∷ lending good (lent 63) (lent 63)  -- NO ROOM: unchanged
+    ∷ lending bad (lent 64) (lent 64)  -- refused: unchanged
+    ∷ lending large (lent 64) (lent 64)  -- TOO BIG: unchanged, the first routine's place too
+    ∷ []
+
+pub tables-after : map (λ l. tableAfter (l .sheet) (l .before)) lendings ≡ map (λ l. l .after) lendings
+unfolding lendings tableAfter answers
+tables-after = refl
+
+-- "a refusal's bound is 0"
+pub bounds-told : map (λ s. boundIn (answer s 64)) (good ∷ bad ∷ large ∷ []) ≡ 9 ∷ 0 ∷ 0 ∷ []
+unfolding answers
+bounds-told = refl
+
+infix 68 _upTo_
+abbrev _upTo_ : ℕ → ℕ → Part
+start upTo stop = record { start = start; stop = stop }
+
+-- "from its routine record to the last record of its body"; "A number outside 1 to the count .. gives the empty part at the sheet's end"
+pub parts : map (partOf good) (0 ∷ 1 ∷ 2 ∷ 3 ∷ []) ≡ 52 upTo 52 ∷ 12 upTo 28 ∷ 28 upTo 52 ∷ 52 upTo 52 ∷ []
+unfolding partOf answers
+parts = refl
+
+-- "or a sheet refused for anything but NO ROOM"
+pub parts-refused : map (λ s. partOf s 1) ([] ∷ bad ∷ large ∷ []) ≡ 0 upTo 0 ∷ 52 upTo 52 ∷ 72 upTo 72 ∷ []
+unfolding partOf answers
+parts-refused = refl
+
+-- the bytes of those parts are the routine's
+pub part-bytes : map (routinePart good) (0 ∷ 1 ∷ 2 ∷ []) ≡ [] ∷ routineBytes (R 3 (P 1)) ∷ routineBytes (R 5 (S (C 1 ∷ []))) ∷ []
+unfolding routinePart partOf answers
+part-bytes = refl
+
+-- the columns "Kind" and "Length" of the table of records
+pub kind-column : map (λ r. r .kind) (sheetRows ++ routineRows ++ constructRows) ≡ 100 ∷ 1 ∷ 2 ∷ 3 ∷ 4 ∷ 5 ∷ 6 ∷ 7 ∷ 8 ∷ 9 ∷ []
+kind-column = refl
+
+pub length-column :
+    map (λ r. lengthOf (length (r .ranges))) (sheetRows ++ routineRows ++ constructRows) ≡ 12 ∷ 8 ∷ 8 ∷ 8 ∷ 8 ∷ 12 ∷ 12 ∷ 8 ∷ 8 ∷ 12 ∷ []
+length-column = refl
+
+-- "Case b in bytes": 0C 00 64 00 01 00 00 00 01 00 00 00, 08 00 01 00 05 00 00 00, 08 00 02 00 07 00 00 00
+pub case-b :
+    routines (R 5 (P 7) ∷ [])
+    ≡ (12 ∷ 0 ∷ 100 ∷ 0 ∷ 1 ∷ 0 ∷ 0 ∷ 0 ∷ 1 ∷ 0 ∷ 0 ∷ 0 ∷ []) ++ (8 ∷ 0 ∷ 1 ∷ 0 ∷ 5 ∷ 0 ∷ 0 ∷ 0 ∷ []) ++ (8 ∷ 0 ∷ 2 ∷ 0 ∷ 7 ∷ 0 ∷ 0 ∷ 0 ∷ [])
+unfolding answers
+case-b = refl
