@@ -6,4 +6,5 @@ pub mod Faults
 pub mod Edges
 pub mod Values
 pub mod Returns
+pub mod Legality
 pub mod Laws
