@@ -1,14 +1,14 @@
 -- What stands in a sheet from a place on; readers that read back what was written, and that the reader of a record is one.
-use Prim.Native.Nat.{ℕ, _+_, _*_, _/_, _%_, _≤_}
+use Prim.Native.Nat.{ℕ, _+_}
 use mathlib.Core.Path.{_≡_, refl, sym, ap, ap₂, _∙_}
 use mathlib.Core.Bool.{true, false≢true}
 use mathlib.Core.List.{List, [], _∷_, _++_, append-assoc, append-nil}
-use lib.ListN.{length, getD, length-append}
-use lib.Seq.{getD-append-add}
+use lib.ListN.{length, drop, length-append}
+use lib.Seq.{drop-at}
 use borrow.Author.Tests.{le-ltb, eq-eqb}
 use native.Mathlib.Omega.{arith}
 use Rattle.meaning.specs.Format.{Range, within, rangesOf, listed, lengthOf, inRanges, InRange, Record, half, word, words, recordBytes}
-use Rattle.meaning.specs.Judgement.{Reading, found, Reader, _>>=_, refuse, two, four, fieldsAt, Owed, rowsOf, placed, judged}
+use Rattle.meaning.specs.Judgement.{Reading, found, Reader, _>>=_, refuse, two, four, fieldsOf, Owed, rowsOf, placed, judged}
 use Rattle.meaning.proofs.Laws.{pick-true, in-ranges-length, length-record}
 
 -- From a place on, s has the bytes xs: before them it has as many bytes as the place says.
@@ -41,47 +41,25 @@ module _ {s : List ℕ} where
     far = let l = length-append (h .before) xs in let p = h .far in omega arith;
   }
 
-  -- s has room for what stands in it
-  here-room : {place : ℕ} (xs : List ℕ) → Here s place xs → place + length xs ≤ length s
-  here-room xs h =
-      let l = length-append (h .before) (xs ++ h .after) in
-      let k = length-append xs (h .after) in
-      let e : length s ≡ length (h .before ++ (xs ++ h .after)) = ap length (h .is) in
-      let p = h .far in
-      omega arith
+  -- what is left of s from there on starts with it
+  left-is : {place : ℕ} (xs : List ℕ) (h : Here s place xs) → drop place s ≡ xs ++ h .after
+  left-is {place} xs h = ap (λ z. drop place z) (h .is) ∙ drop-at (h .before) (xs ++ h .after) place (h .far)
 
-  -- the byte i past a place is byte i of what stands there
-  byte : {place : ℕ} (xs : List ℕ) (h : Here s place xs) (next i : ℕ) → next ≡ place + i → getD s next 0 ≡ getD (xs ++ h .after) i 0
-  byte xs h next i e = ap₂ (λ y z. getD y z 0) (h .is) (e ∙ ap (λ z. z + i) (sym (h .far))) ∙ getD-append-add (h .before) (xs ++ h .after) i 0
+-- numbers of two and four bytes, and fields in their ranges, are read as they were written
+two-back : (n : ℕ) (ys : List ℕ) → two (half n ++ ys) ≡ n
+unfolding two
+two-back n ys = omega arith
 
-  -- numbers of two and four bytes, and fields in their ranges, are read as they were written
-  two-back : (place n : ℕ) → Here s place (half n) → two s place ≡ n
-  unfolding two
-  two-back place n h = ap₂ (λ x y. x + 256 * y) (byte (half n) h place 0 (omega arith)) (byte (half n) h (place + 1) 1 refl) ∙ whole
-    where
-      whole : n % 256 + 256 * (n / 256) ≡ n
-      whole = omega arith
+four-back : (n : ℕ) (ys : List ℕ) → four (word n ++ ys) ≡ n
+unfolding four two
+four-back n ys = omega arith
 
-  four-back : (place n : ℕ) → Here s place (word n) → four s place ≡ n
-  unfolding four two
-  four-back place n h =
-      ap₂ (λ x y. x + 65536 * y)
-      (ap₂ (λ x y. x + 256 * y) (byte (word n) h place 0 (omega arith)) (byte (word n) h (place + 1) 1 refl))
-      (ap₂ (λ x y. x + 256 * y) (byte (word n) h (place + 2) 2 refl) (byte (word n) h (place + 2 + 1) 3 (omega arith)))
-      ∙ whole
-    where
-      whole : n % 256 + 256 * (n / 256 % 256) + 65536 * (n / 65536 % 256 + 256 * (n / 16777216)) ≡ n
-      whole = omega arith
-
-  fields-back : (ranges : List Range) (fields : List ℕ) (place : ℕ) → inRanges ranges fields ≡ true → Here s place (words fields) → fieldsAt s ranges place ≡ fields
-  unfolding inRanges words fieldsAt
-  fields-back [] [] place e h = refl
-  fields-back [] (x ∷ xs) place e h = absurd (false≢true e)
-  fields-back (r ∷ rs) [] place e h = absurd (false≢true e)
-  fields-back (r ∷ rs) (x ∷ xs) place e h =
-      ap₂ (λ y ys. y ∷ ys)
-      (four-back place x (here-left (word x) (words xs) h))
-      (fields-back rs xs (place + 4) (pick-true (within r x) (inRanges rs xs) e .1) (here-right (place + 4) (word x) (words xs) refl h))
+fields-back : (ranges : List Range) (fields ys : List ℕ) → inRanges ranges fields ≡ true → fieldsOf ranges (words fields ++ ys) ≡ fields
+unfolding inRanges words fieldsOf
+fields-back [] [] ys e = refl
+fields-back [] (x ∷ xs) ys e = absurd (false≢true e)
+fields-back (r ∷ rs) [] ys e = absurd (false≢true e)
+fields-back (r ∷ rs) (x ∷ xs) ys e = ap₂ _∷_ (four-back x (words xs ++ ys)) (fields-back rs xs ys (pick-true (within r x) (inRanges rs xs) e .1))
 
 -- Wherever the bytes xs stand in s, the reader finds a there, and the place past them.
 pub record ReadBack {A : Type 0} (s xs : List ℕ) (read : Reader A) (a : A) : Type 0 where
@@ -115,21 +93,21 @@ unfolding recordBytes judged refuse
 record-back {s} owed x known fit kept = record {
   from = λ at h.
       let n = lengthOf (length (x .fields)) in
-      let kind = half (x .kind) in
-      let fields = words (x .fields) in
+      let left = recordBytes x ++ h .after in
+      let fields = words (x .fields) ++ h .after in
       let ranges = rangesOf (x .kind) (rowsOf owed) in
-      let past = here-right (at + 2) (half n) (kind ++ fields) refl h in
       let size = length-record x in
-      let room = here-room (recordBytes x) h in
+      let room = length-append (recordBytes x) (h .after) in
       rw (
-        two-back (at + 2) (x .kind) (here-left kind fields past),
-        fields-back ranges (x .fields) (at + 4) fit (here-right (at + 4) kind fields (omega arith) past),
-        two-back at n (here-left (half n) (kind ++ fields) h),
+        left-is (recordBytes x) h,
+        two-back (x .kind) fields,
+        fields-back ranges (x .fields) (h .after) fit,
+        two-back n (half (x .kind) ++ fields),
         in-ranges-length ranges (x .fields) fit,
-        le-ltb (length s) (at + 4) (omega arith),
+        le-ltb (length left) 4 (omega arith),
         known,
         eq-eqb n n refl,
-        le-ltb (length s) (at + n) (omega arith),
+        le-ltb (length left) n (omega arith),
         fit,
         kept at (found x (at + n)),
       )

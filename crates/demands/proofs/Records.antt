@@ -1,9 +1,9 @@
 -- What a record is that was judged good: of a kind that is owed, in range, in its place, and these are its bytes.
-use Prim.Native.Nat.{ℕ, _+_, _≤_}
+use Prim.Native.Nat.{ℕ, _≤_}
 use mathlib.Core.Path.{_≡_, refl, sym, subst}
 use mathlib.Core.Bool.{Bool, true, false, false≢true}
 use mathlib.Core.List.{List, [], _∷_}
-use lib.ListN.{length, getD}
+use lib.ListN.{length, getD, drop}
 use lib.Dec.{leb, eqb}
 use native.Mathlib.Omega.{arith}
 use borrow.Author.Tests.{ltb-false, leb-true, eqb-true, not-false}
@@ -38,7 +38,8 @@ found-placed (construct own left r last) x at past k =
 pub judged-good : (s : List ℕ) (owed : Owed) (at : ℕ) → Found (Judged s owed at) (judged s owed at)
 unfolding judged
 judged-good s owed at =
-    let ranges = rangesOf (two s (at + 2)) (rowsOf owed) in
+    let left = drop at s in
+    let ranges = rangesOf (two (drop 2 left)) (rowsOf owed) in
     found-unless _ 3 at (omega arith) (λ _.
     found-unless _ 4 at (omega arith) (λ h4.
     found-unless _ 5 at (omega arith) (λ h5.
@@ -48,7 +49,7 @@ judged-good s owed at =
       kind = not-false _ h4;
       range = not-false _ h6;
       place = h;
-      span = span-record s ranges at (eqb-true (two s at) (lengthOf (length ranges)) (not-false _ h5)) (ltb-false _ _ h3);
+      span = span-record s ranges at (eqb-true (two left) (lengthOf (length ranges)) (not-false _ h5)) (ltb-false _ _ h3);
     }))))))
 
 abbrev of : ℕ → List ℕ → Record

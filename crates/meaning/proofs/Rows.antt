@@ -4,7 +4,7 @@ use mathlib.Core.List.{List, [], _∷_, _++_, map}
 use Rattle.meaning.specs.Tree.{Construct, Routine}
 use Rattle.meaning.specs.Format.{listed, rangesOf, inRanges, half, words, recordBytes, bytes, routineBytes, routinesBytes, bytesOf}
 use Rattle.meaning.specs.Value.{pays, total, times, value, bound, bounds}
-use Rattle.meaning.specs.Judgement.{refuse, two, four, fieldsAt, judged, list, branches}
+use Rattle.meaning.specs.Judgement.{refuse, two, four, fieldsOf, judged, list, branches}
 use Rattle.meaning.specs.Judgement.{sequenceAt, alternativeAt, headLoopAt, tailLoopAt, timedLoopAt, constructAt, routineAt, routinesAt, sheetAt}
 use Rattle.meaning.specs.Answer.{ended, endedRoutines, tooBig, Verdict, accepted, outcome, answer}
 use Rattle.meaning.proofs.Notation.{R, sheet}
@@ -40,7 +40,7 @@ s refused number at place = record { sheet = s; answer = Verdict.refused number 
 
 -- the answers that the definitions give, to a table of 64 places, and those that the rows state
 unfoldable pub answers : List Case → List (Verdict ℕ)
-unfolding listed rangesOf inRanges words recordBytes bytes routineBytes routinesBytes bytesOf pays total times value bound bounds refuse two four fieldsAt
+unfolding listed rangesOf inRanges words recordBytes bytes routineBytes routinesBytes bytesOf pays total times value bound bounds refuse two four fieldsOf
     judged list branches sequenceAt alternativeAt headLoopAt tailLoopAt timedLoopAt constructAt routineAt routinesAt sheetAt
     ended endedRoutines tooBig outcome answer
 answers = map (λ c. answer (c .sheet) 64)

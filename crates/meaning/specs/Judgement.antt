@@ -3,7 +3,7 @@ use Prim.Native.Nat.{ℕ, zero, suc, _+_, _*_}
 use mathlib.Core.Bool.{Bool, true, false, not}
 use mathlib.Core.List.{List, [], _∷_}
 use mathlib.Core.Option.{Option, some, none}
-use lib.ListN.{length, getD}
+use lib.ListN.{length, getD, drop}
 use lib.Dec.{leb, ltb, eqb}
 use Rattle.meaning.specs.Tree.{Marker, Loop, Construct, Constructs, Routine, Sheet, mark}
 use Rattle.meaning.specs.Tree.{primitive, sequence, alternative, headLoop, tailLoop, timedLoop, call, marker, end, _then_}
@@ -32,16 +32,16 @@ unfoldable pub refuse : {A : Type 0} → Bool → ℕ → ℕ → Reading A → 
 refuse true number place rest = refused number place
 refuse false number place rest = rest
 
--- numbers of two and four bytes at a place, "little-endian and unsigned", and a field for each range
-unfoldable pub two : List ℕ → ℕ → ℕ
-two s at = getD s at 0 + 256 * getD s (at + 1) 0
+-- the numbers of two and four bytes that some bytes start with, "little-endian and unsigned", and a field for each range
+unfoldable pub two : List ℕ → ℕ
+two xs = getD xs 0 0 + 256 * getD xs 1 0
 
-unfoldable pub four : List ℕ → ℕ → ℕ
-four s at = two s at + 65536 * two s (at + 2)
+unfoldable pub four : List ℕ → ℕ
+four xs = two xs + 65536 * two (drop 2 xs)
 
-unfoldable pub fieldsAt : List ℕ → List Range → ℕ → List ℕ
-fieldsAt s [] at = []
-fieldsAt s (r ∷ rs) at = four s at ∷ fieldsAt s rs (at + 4)
+unfoldable pub fieldsOf : List Range → List ℕ → List ℕ
+fieldsOf [] xs = []
+fieldsOf (r ∷ rs) xs = four xs ∷ fieldsOf rs (drop 4 xs)
 
 -- What is owed at a place: the sheet, a routine, or a construct, with the number of its routine, the depths left (24 for a body, 0 at
 -- depth 25), its reach, and whether it is a last branch whose fellows are all marked, or stands first in one.
@@ -79,16 +79,17 @@ placed (construct own left r last) x at good =
 -- A record is judged by what is owed: "fewer than four bytes is CUT; then 4; 5; the rest missing is CUT; then 6 to 10 in order".
 unfoldable pub judged : List ℕ → Owed → Reader Record
 judged s owed at =
-    let kind = two s (at + 2) in
+    let rest = drop at s in
+    let kind = two (drop 2 rest) in
     let ranges = rangesOf kind (rowsOf owed) in
-    let next = at + lengthOf (length ranges) in
-    let x : Record = record { kind = kind; fields = fieldsAt s ranges (at + 4) } in
-    refuse (ltb (length s) (at + 4)) 3 at  -- CUT
+    let size = lengthOf (length ranges) in
+    let x : Record = record { kind = kind; fields = fieldsOf ranges (drop 4 rest) } in
+    refuse (ltb (length rest) 4) 3 at  -- CUT
     (refuse (not (listed kind (rowsOf owed))) 4 at  -- BAD KIND
-    (refuse (not (eqb (two s at) (lengthOf (length ranges)))) 5 at  -- BAD LENGTH
-    (refuse (ltb (length s) next) 3 at  -- CUT
+    (refuse (not (eqb (two rest) size)) 5 at  -- BAD LENGTH
+    (refuse (ltb (length rest) size) 3 at  -- CUT
     (refuse (not (inRanges ranges (x .fields))) 6 at  -- BAD FIELD
-    (placed owed x at (found x next))))))
+    (placed owed x at (found x (at + size)))))))
 
 -- how a construct is read by its reach and by whether it is or stands first in such a last branch
 abbrev pub ConstructReader : Type 0
