@@ -24,18 +24,18 @@ mayMark r = pick (r .scope) (r .lead) false
 abbrev pub nowhere : Reach
 nowhere = record { scope = false; alternative = false; branch = false; lead = false }
 
--- "Between that loop and the marker only three things may stand: sequences," by their first child and the later ones,
+-- "Between that loop and the marker only three things may stand": "sequences", by their first child and by the later ones;
 abbrev pub firstChild : Reach → Reach
 firstChild r = record { scope = r .scope; alternative = r .alternative; branch = false; lead = r .branch }
 
 abbrev pub laterChild : Reach → Reach
 laterChild r = record { scope = r .scope; alternative = r .alternative; branch = false; lead = false }
 
--- "branches of alternatives,
+-- "branches of alternatives";
 abbrev pub asBranch : Reach → Reach
 asBranch r = record { scope = r .scope; alternative = true; branch = true; lead = false }
 
--- bodies of counted loops with scope 0. No such loop may lie inside an alternative that lies inside the scope." One with scope 1 is a new scope.
+-- "bodies of counted loops with scope 0. No such loop may lie inside an alternative that lies inside the scope." Scope 1 is a new scope.
 abbrev pub asBody : Bool → Reach → Reach
 asBody true r = record { scope = true; alternative = false; branch = false; lead = false }
 asBody false r = record { scope = pick (r .alternative) false (r .scope); alternative = r .alternative; branch = false; lead = false }
