@@ -4,8 +4,6 @@ use Prim.Native.Nat.{ℕ, zero, suc, _≤_}
 use mathlib.Core.Path.{_≡_, refl, sym, subst}
 use mathlib.Core.List.{List}
 use lib.ListN.{length, drop, List·getD-append}
-use lib.Dec.{leb}
-use borrow.Author.Tests.{leb-true}
 use native.Mathlib.Omega.{arith}
 use Rattle.meaning.specs.Tree.{Sheet, numbered}
 use Rattle.meaning.specs.Format.{_to_, within, rangesOf, inRanges}
@@ -16,8 +14,8 @@ use Rattle.runs.specs.Run.{RoutineTakes, SheetTakes}
 use Rattle.runs.specs.Premise.{SingleSheet}
 use Rattle.runs.proofs.Sound.{sheet-sound}
 use Rattle.runs.proofs.Reached.{length-bounds, sheet-reached}
-use Rattle.meaning.proofs.Laws.{pick-true}
-use Rattle.demands.proofs.Outcome.{not-accepted, accepted-same, Answered, a-refusal, a-bound, answered}
+use Rattle.meaning.proofs.Laws.{pick-true, within-is}
+use Rattle.demands.proofs.Outcome.{not-accepted, accepted-same, Answered, no-room, a-refusal, a-bound, answered}
 use Rattle.demands.proofs.RoundTrip.{accepted-good}
 
 -- the bytes s, accepted with the bound b, and the table after it
@@ -46,7 +44,7 @@ some-routine t h =
     let n = length (t .routines) in
     let (edition, rest) = pick-true (within (1 to 1) (t .edition)) _ (h .0) in
     let (many, done) = pick-true (within (1 to 64) n) _ rest in
-    leb-true 1 n (pick-true (leb 1 n) (leb n 64) many .0)
+    within-is (1 to 64) n many .0
 
 demand-of : (s table : List ℕ) (t : Sheet) → outcome s ≡ accepted t → Demand s (taskBound t) (stored (accepted t) table)
 demand-of s table t e =
@@ -65,5 +63,6 @@ pub demand : (s table : List ℕ) (b : ℕ) → answer s (length table) ≡ acce
 demand s table b e = go (answer s (length table)) (tableAfter s table) (answered s table) e
   where
     go : (v : Verdict ℕ) (after : List ℕ) → Answered s table v after → v ≡ accepted b → Demand s b after
-    go v after (a-refusal low high zero-bound) e = not-accepted e
+    go v after (no-room h) e = not-accepted e
+    go v after (a-refusal h read low high) e = not-accepted e
     go v after (a-bound {t = t} room read) e = subst (λ z. Demand s z (stored (accepted t) table)) (accepted-same e) (demand-of s table t read)

@@ -13,14 +13,14 @@ use Rattle.meaning.specs.Tree.{Sheet}
 use Rattle.meaning.specs.Format.{pick}
 use Rattle.meaning.specs.Value.{taskBound}
 use Rattle.meaning.specs.Judgement.{Reading, found, sheetAt}
-use Rattle.meaning.specs.Answer.{valueLimit, Ended, endedOf, tooBig, Verdict, accepted, refused, sized, judgement, outcome, told, answer, boundIn, stored, tableAfter}
-use Rattle.demands.proofs.Found.{Listed, Found, not-read, was-read}
+use Rattle.meaning.specs.Answer.{valueLimit, Ended, endedOf, tooBig, Verdict, accepted, refused, sized, judgement, outcome, told, noRoom, answer, boundIn, stored, tableAfter}
+use Rattle.demands.proofs.Found.{OfRecords, Found, not-read, was-read}
 use Rattle.demands.proofs.Sheets.{good-sheet}
 
 -- what becomes of the bytes s
 pub data Decided (s : List ℕ) : Verdict Sheet → Type 0 where
   too-long : 60000 < length s → Decided s (refused 2 0)
-  bad-record : {number place : ℕ} → length s ≤ 60000 → sheetAt s 0 ≡ Reading.refused number place → Listed number → Decided s (refused number place)
+  bad-record : {number place : ℕ} → length s ≤ 60000 → sheetAt s 0 ≡ Reading.refused number place → OfRecords number → Decided s (refused number place)
   too-big : {t : Sheet} {past place : ℕ} → length s ≤ 60000 → sheetAt s 0 ≡ found t past → tooBig (endedOf t) ≡ some place → Decided s (refused 12 place)
   good : {t : Sheet} {past : ℕ} → length s ≤ 60000 → sheetAt s 0 ≡ found t past → tooBig (endedOf t) ≡ none → Decided s (accepted t)
 
@@ -40,24 +40,29 @@ decided s = by-length (ltb 60000 (length s)) refl
     by-length true e = too-long (ltb-true 60000 (length s) e)
     by-length false e = by-reading (ltb-false 60000 (length s) e) (sheetAt s 0) refl (good-sheet s)
 
--- DEMAND 1: every sheet and table get an answer: a bound, or a refusal of the list, with bound 0 and the table as it was.
+-- DEMAND 1: every sheet and table get an answer: NO ROOM; or the sheet's refusal, of the list; or its task's bound. A refusal has bound 0 and
+-- leaves the table as it was.
 pub data Answered (s table : List ℕ) : Verdict ℕ → List ℕ → Type 0 where
-  a-refusal : {number place : ℕ} → 1 ≤ number → number ≤ 12 → boundIn (refused number place) ≡ 0 → Answered s table (refused number place) table
+  no-room : length table < 64 → Answered s table (refused 1 0) table
+  a-refusal : {number place : ℕ} → 64 ≤ length table → outcome s ≡ refused number place → 2 ≤ number → number ≤ 12 → Answered s table (refused number place) table
   a-bound : {t : Sheet} → 64 ≤ length table → outcome s ≡ accepted t → Answered s table (accepted (taskBound t)) (stored (accepted t) table)
 
 pub answered : (s table : List ℕ) → Answered s table (answer s (length table)) (tableAfter s table)
 unfolding answer tableAfter
-answered s table = by-room (ltb (length table) 64) refl
+answered s table = by-room (noRoom (length table)) refl
   where
     by-decision : 64 ≤ length table → (v : Verdict Sheet) → outcome s ≡ v → Decided s v → Answered s table (told v) (stored v table)
-    by-decision h v e (too-long l) = a-refusal {number = 2} (omega arith) (omega arith) refl
-    by-decision h v e (bad-record {number = k} l q n) = a-refusal {number = k} (omega arith) (omega arith) refl
-    by-decision h v e (too-big l q b) = a-refusal {number = 12} (omega arith) (omega arith) refl
+    by-decision h v e (too-long l) = a-refusal {number = 2} h e (omega arith) (omega arith)
+    by-decision h v e (bad-record {number = k} l q n) = a-refusal {number = k} h e (omega arith) (omega arith)
+    by-decision h v e (too-big l q b) = a-refusal {number = 12} h e (omega arith) (omega arith)
     by-decision h v e (good l q b) = a-bound h e
 
-    by-room : (t : Bool) → ltb (length table) 64 ≡ t → Answered s table (pick t (refused 1 0) (told (outcome s))) (pick t table (stored (outcome s) table))
-    by-room true e = a-refusal {number = 1} (omega arith) (omega arith) refl
+    by-room : (t : Bool) → noRoom (length table) ≡ t → Answered s table (pick t (refused 1 0) (told (outcome s))) (pick t table (stored (outcome s) table))
+    by-room true e = no-room (ltb-true (length table) 64 e)
     by-room false e = by-decision (ltb-false (length table) 64 e) (outcome s) refl (decided s)
+
+pub bound-0 : (s table : List ℕ) (number place : ℕ) → answer s (length table) ≡ refused number place → boundIn (answer s (length table)) ≡ 0
+bound-0 s table number place e = rw e
 
 -- an accepted verdict is no refusal, and has one thing accepted
 abbrev isAccepted : {A : Type 0} → Verdict A → Type 0

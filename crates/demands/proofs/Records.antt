@@ -4,13 +4,13 @@ use mathlib.Core.Path.{_≡_, refl, sym, subst}
 use mathlib.Core.Bool.{Bool, true, false, false≢true}
 use mathlib.Core.List.{List, [], _∷_}
 use lib.ListN.{length, getD, drop}
-use lib.Dec.{leb, eqb}
+use lib.Dec.{eqb}
 use native.Mathlib.Omega.{arith}
-use borrow.Author.Tests.{ltb-false, leb-true, eqb-true, not-false}
-use Rattle.meaning.specs.Format.{pick, Range, _to_, Row, sheetRows, routineRows, constructRows, listed, rangesOf, lengthOf}
-use Rattle.meaning.specs.Format.{within, inRanges, Record, field, InRange, recordBytes}
+use borrow.Author.Tests.{ltb-false, eqb-true, not-false}
+use Rattle.meaning.specs.Format.{pick, Range, Row, sheetRows, routineRows, constructRows, listed, rangesOf, lengthOf}
+use Rattle.meaning.specs.Format.{within, inRanges, Record, field, InRange, of, recordBytes}
 use Rattle.meaning.specs.Judgement.{found, two, Owed, sheet, routine, construct, rowsOf, badCall, stray, noPlain, placed, judged}
-use Rattle.meaning.proofs.Laws.{pick-true}
+use Rattle.meaning.proofs.Laws.{pick-true, within-is}
 use Rattle.demands.proofs.Found.{Found, was-read, found-unless}
 use Rattle.demands.proofs.Span.{Span, span-record}
 
@@ -52,9 +52,6 @@ judged-good s owed at =
       span = span-record s ranges at (eqb-true (two left) (lengthOf (length ranges)) (not-false _ h5)) (ltb-false _ _ h3);
     }))))))
 
-abbrev of : ℕ → List ℕ → Record
-of kind fields = record { kind = kind; fields = fields }
-
 -- What holds of each row's records holds of a record that is listed and in range.
 abbrev pub Each : (Record → Type 0) → List Row → Type 0
 Each P [] = Unit {0}
@@ -70,17 +67,17 @@ by-rows P (r ∷ rs) each x h range = go (eqb (x .kind) (r .kind)) refl h range 
     go true e h range rest = subst (λ k. P (of k (x .fields))) (sym (eqb-true (x .kind) (r .kind) e)) (each .0 (x .fields) range)
     go false e h range rest = rest h range
 
--- one field in its range; two
+-- one field in its range; two fields, the second in its range
 one : (P : List ℕ → Type 0) (p : Range) → ((a : ℕ) → within p a ≡ true → P (a ∷ [])) → (fields : List ℕ) → inRanges (p ∷ []) fields ≡ true → P fields
 unfolding inRanges
 one P p k [] h = absurd (false≢true h)
 one P p k (a ∷ []) h = k a (pick-true (within p a) true h .0)
 one P p k (a ∷ b ∷ fields) h = absurd (false≢true (pick-true (within p a) false h .1))
 
-both : (P : List ℕ → Type 0) (p q : Range) → ((a b : ℕ) → within q b ≡ true → P (a ∷ b ∷ [])) → (fields : List ℕ) → inRanges (p ∷ q ∷ []) fields ≡ true → P fields
+two-fields : (P : List ℕ → Type 0) (p q : Range) → ((a b : ℕ) → within q b ≡ true → P (a ∷ b ∷ [])) → (fields : List ℕ) → inRanges (p ∷ q ∷ []) fields ≡ true → P fields
 unfolding inRanges
-both P p q k [] h = absurd (false≢true h)
-both P p q k (a ∷ fields) h = one (λ z. P (a ∷ z)) q (λ b z. k a b z) fields (pick-true (within p a) _ h .1)
+two-fields P p q k [] h = absurd (false≢true h)
+two-fields P p q k (a ∷ fields) h = one (λ z. P (a ∷ z)) q (λ b z. k a b z) fields (pick-true (within p a) _ h .1)
 
 -- The records of constructs, with what the ranges say of a scope and of a number of branches.
 pub data Sort : Record → Type 0 where
@@ -93,25 +90,22 @@ pub data Sort : Record → Type 0 where
   a-call : (number : ℕ) → Sort (of 8 (number ∷ []))
   a-marker : (limit cost : ℕ) → Sort (of 9 (limit ∷ cost ∷ []))
 
-scope-small : (b : ℕ) → within (0 to 1) b ≡ true → b ≤ 1
-scope-small b h = leb-true b 1 (pick-true (leb 0 b) (leb b 1) h .1)
-
 pub sort : (x : Record) → listed (x .kind) constructRows ≡ true → InRange constructRows x → Sort x
 sort = by-rows Sort constructRows (
   one (λ f. Sort (of 2 f)) _ (λ a _. a-primitive a),
   (
     one (λ f. Sort (of 3 f)) _ (λ n _. a-sequence n),
     (
-      one (λ f. Sort (of 4 f)) _ (λ n h. an-alternative n (leb-true 2 n (pick-true (leb 2 n) (leb n 256) h .0))),
+      one (λ f. Sort (of 4 f)) _ (λ n h. an-alternative n (within-is _ n h .0)),
       (
-        both (λ f. Sort (of 5 f)) _ _ (λ n b h. a-head-loop n b (scope-small b h)),
+        two-fields (λ f. Sort (of 5 f)) _ _ (λ n b h. a-head-loop n b (within-is _ b h .1)),
         (
-          both (λ f. Sort (of 6 f)) _ _ (λ n b h. a-tail-loop n b (scope-small b h)),
+          two-fields (λ f. Sort (of 6 f)) _ _ (λ n b h. a-tail-loop n b (within-is _ b h .1)),
           (
             one (λ f. Sort (of 7 f)) _ (λ a _. a-timed-loop a),
             (
               one (λ f. Sort (of 8 f)) _ (λ a _. a-call a),
-              (both (λ f. Sort (of 9 f)) _ _ (λ a b _. a-marker a b), tt),
+              (two-fields (λ f. Sort (of 9 f)) _ _ (λ a b _. a-marker a b), tt),
             ),
           ),
         ),
@@ -126,4 +120,4 @@ routine-is = by-rows (λ x. of 1 (field x 0 ∷ []) ≡ x) routineRows (one (λ 
 
 pub sheet-is : (x : Record) → listed (x .kind) sheetRows ≡ true → InRange sheetRows x → of 100 (field x 0 ∷ field x 1 ∷ []) ≡ x
 sheet-is =
-    by-rows (λ x. of 100 (field x 0 ∷ field x 1 ∷ []) ≡ x) sheetRows (both (λ f. of 100 (getD f 0 0 ∷ getD f 1 0 ∷ []) ≡ of 100 f) _ _ (λ a b _. refl), tt)
+    by-rows (λ x. of 100 (field x 0 ∷ field x 1 ∷ []) ≡ x) sheetRows (two-fields (λ f. of 100 (getD f 0 0 ∷ getD f 1 0 ∷ []) ≡ of 100 f) _ _ (λ a b _. refl), tt)

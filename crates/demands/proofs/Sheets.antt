@@ -49,7 +49,6 @@ module _ (s : List ℕ) where
 
   pub record GoodSheet (t : Sheet) (past : ℕ) : Type 0 where
     pub legal : LegalSheet t
-    pub long : past ≡ length (bytesOf t)
     pub same : AreBytes s → s ≡ bytesOf t
 
   pub good-sheet : Found GoodSheet (sheetAt s 0)
@@ -63,6 +62,5 @@ module _ (s : List ℕ) where
       let span = span-then (subst (λ z. Span s 0 next (recordBytes z)) (sym e) (j .span)) (y .span) in
       was-read {a = t} (record {
         legal = (subst (InRange sheetRows) (sym e) (j .range), y .legal);
-        long = (let l = span .long in omega arith);
         same = λ are. span .same are ∙ ap (λ z. bytesOf t ++ z) (drop-of-length-le s (ltb-false past (length s) whole)) ∙ append-nil (bytesOf t);
       }))))

@@ -77,7 +77,10 @@ starts-fields (r ∷ rs) xs h are =
     let n = length-drop 4 xs in
     let e : 4 + 4 * length rs ≡ 4 * suc (length rs) = omega arith in
     starts-four xs (omega arith) are
-    ∙ ap (λ z. word (four xs) ++ z) (starts-fields rs (drop 4 xs) (omega arith) (are-left xs 4 are) ∙ ap (λ z. words (fieldsOf rs (drop 4 xs)) ++ z) (drop-drop (4 * length rs) 4 xs ∙ ap (λ z. drop z xs) e))
+    ∙ ap (λ z. word (four xs) ++ z) (
+    starts-fields rs (drop 4 xs) (omega arith) (are-left xs 4 are)
+    ∙ ap (λ z. words (fieldsOf rs (drop 4 xs)) ++ z) (drop-drop (4 * length rs) 4 xs ∙ ap (λ z. drop z xs) e)
+    )
 
 -- a record whose length is the one of its fields
 starts-record : (ranges : List Range) (xs : List ℕ) → two xs ≡ lengthOf (length ranges) → lengthOf (length ranges) ≤ length xs → AreBytes xs →
@@ -91,7 +94,9 @@ starts-record ranges xs e h are =
     let kind = starts-two (drop 2 xs) (omega arith) (are-left xs 2 are) in
     let rest = starts-fields ranges (drop 4 xs) (omega arith) (are-left xs 4 are) in
     starts-two xs (omega arith) are ∙ ap (λ z. half z ++ drop 2 xs) size
-    ∙ ap (λ z. half (lengthOf (length fields)) ++ z) (kind ∙ ap (λ z. half (two (drop 2 xs)) ++ z) (drop-drop 2 2 xs ∙ rest ∙ ap (λ z. words fields ++ z) (drop-drop (4 * length ranges) 4 xs)))
+    ∙ ap (λ z. half (lengthOf (length fields)) ++ z) (
+    kind ∙ ap (λ z. half (two (drop 2 xs)) ++ z) (drop-drop 2 2 xs ∙ rest ∙ ap (λ z. words fields ++ z) (drop-drop (4 * length ranges) 4 xs))
+    )
 
 pub span-record : (s : List ℕ) (ranges : List Range) (at : ℕ) → two (drop at s) ≡ lengthOf (length ranges) → lengthOf (length ranges) ≤ length (drop at s) →
     Span s at (at + lengthOf (length ranges)) (recordBytes (record { kind = two (drop 2 (drop at s)); fields = fieldsOf ranges (drop 4 (drop at s)) }))

@@ -4,15 +4,13 @@ use mathlib.Core.Path.{_≡_, refl}
 use mathlib.Core.Bool.{true, false≢true}
 use mathlib.Core.List.{List, [], _∷_, _++_}
 use lib.ListN.{length, getD}
-use lib.Dec.{leb}
-use borrow.Author.Tests.{leb-true}
 use native.Mathlib.Omega.{arith}
 use Rattle.meaning.specs.Tree.{Construct, Constructs, Routine, Sheet}
 use Rattle.meaning.specs.Tree.{primitive, sequence, alternative, headLoop, tailLoop, timedLoop, call, marker, end, _then_}
-use Rattle.meaning.specs.Format.{Range, Row, sheetRows, routineRows, constructRows, listed, within, lengthOf, inRanges, Record, InRange}
+use Rattle.meaning.specs.Format.{Range, Row, sheetRows, routineRows, constructRows, listed, within, lengthOf, inRanges, Record, InRange, of}
 use Rattle.meaning.specs.Format.{recordOf, routineRecord, sheetRecord, half, word, words, recordBytes, bytes, bytesIn, routineBytes, routinesBytes, bytesOf}
 use Rattle.meaning.specs.Legal.{Reach, Legal, Legals, LegalRoutines, LegalSheet}
-use Rattle.meaning.proofs.Laws.{pick-true, in-ranges-length}
+use Rattle.meaning.proofs.Laws.{pick-true, within-is, in-ranges-length}
 use Rattle.demands.proofs.Span.{AreBytes}
 use Rattle.demands.proofs.Records.{Each, by-rows}
 
@@ -49,7 +47,7 @@ are-fields [] (x ∷ xs) w h = absurd (false≢true h)
 are-fields (r ∷ rs) [] w h = absurd (false≢true h)
 are-fields (r ∷ rs) (x ∷ xs) w h =
     let (a, b) = pick-true (within r x) _ h in
-    let small = leb-true x (r .most) (pick-true (leb (r .least) x) (leb x (r .most)) a .1) in
+    let small = within-is r x a .1 in
     are-then (are-word x (omega arith)) (are-fields rs xs (w .1) b)
 
 -- a record of a row whose kind has two bytes, and which is short
@@ -62,7 +60,7 @@ unfolding recordBytes
 wide-rows [] w = tt
 wide-rows (r ∷ rs) w = (one-row, wide-rows rs (w .3))
   where
-    one-row : (fields : List ℕ) → inRanges (r .ranges) fields ≡ true → AreBytes (recordBytes (record { kind = r .kind; fields = fields }))
+    one-row : (fields : List ℕ) → inRanges (r .ranges) fields ≡ true → AreBytes (recordBytes (of (r .kind) fields))
     one-row fields h =
         let short = w .1 in
         let n = in-ranges-length (r .ranges) fields h in

@@ -4,8 +4,8 @@ use Prim.Native.Nat.{ℕ, zero, suc}
 use mathlib.Core.Path.{_≡_, refl}
 use mathlib.Core.List.{List, [], _∷_}
 use Rattle.meaning.specs.Tree.{Construct}
-use Rattle.meaning.proofs.Notation.{P, S, A, H, T, T*, W, M, C, R}
-use Rattle.meaning.proofs.Rows.{Case, routines, body, rec, opened, _gives_, _refused_at_, answers, stated}
+use Rattle.meaning.proofs.Notation.{P, S, A, H, T, W, M, C, R}
+use Rattle.meaning.proofs.Rows.{Case, routines, body, rec, opened, choice, scoped, _gives_, _refused_at_, answers, stated}
 
 -- "use all 32 bits"
 abbrev ones : ℕ
@@ -13,7 +13,7 @@ ones = 4294967295
 
 -- a scope with a marker of this limit and cost, which starts at 56
 abbrev marked : ℕ → ℕ → Construct
-marked limit cost = T* 3 (A (P 0) (S (M limit cost ∷ []) ∷ S [] ∷ [])) (P 0) (S [])
+marked limit cost = scoped 3 (choice limit cost 0)
 
 pub ranges : List Case
 ranges =

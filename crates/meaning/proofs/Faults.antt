@@ -1,14 +1,13 @@
--- Document 01, "What comes back": the refusals that bytes alone show (2 to 5 and 11), and which of two faults decides.
+-- Document 01, "What comes back": the refusals 1 to 5 and 11, and which of two faults decides.
 use Prim.Native.Nat.{ℕ}
 use mathlib.Core.Path.{_≡_, refl}
 use mathlib.Core.List.{List, [], _∷_, _++_, map}
 use lib.ListN.{length, take, replicate}
-use Rattle.meaning.specs.Tree.{Construct}
 use Rattle.meaning.specs.Format.{word, bytes}
 use Rattle.meaning.specs.Judgement.{sheetAt}
 use Rattle.meaning.specs.Answer.{Verdict, accepted, judgement, outcome, answer}
 use Rattle.meaning.proofs.Notation.{P, S, A, H, T, W, M, C, R}
-use Rattle.meaning.proofs.Rows.{Case, routines, body, rec, start, opened, _gives_, _refused_at_, answers, stated}
+use Rattle.meaning.proofs.Rows.{Case, routines, body, rec, start, opened, large, _gives_, _refused_at_, answers, stated}
 
 -- case b: the sheet record, the routine record at 12, the body at 20, 28 bytes in all
 abbrev b : List ℕ
@@ -79,16 +78,13 @@ pub lengths-hold : answers lengths ≡ stated lengths
 unfolding lengths answers
 lengths-hold = refl
 
--- a value over the limit: 257 x 4,294,967,295, in 36 bytes
-abbrev big : Construct
-big = T 257 (P 4294967295) (P 0) (S [])
-
 pub order : List Case
 order =
     opened (10 ∷ 0 ∷ 99 ∷ []) refused 3 at 20  -- under four bytes is CUT before 4
     ∷ opened (start 10 99) refused 4 at 20  -- 4 before 5
     ∷ opened (start 10 2) refused 5 at 20  -- 5 before the rest missing
     ∷ opened (start 12 5 ++ word 1000001) refused 3 at 20  -- the rest missing before 6
+    ∷ opened (start 8 8) refused 3 at 20  -- the rest missing before 7
     ∷ body (M 1000001 1) refused 6 at 20  -- 6 before 9; Edges has 6 before 8, 7 before 8 and 8 before 9, Markers has 9 before 10
     ∷ opened (rec 6 (0 ∷ 0 ∷ [])) refused 6 at 20  -- a record before its missing children
     ∷ opened (rec 3 (2 ∷ []) ++ rec 8 (0 ∷ []) ++ rec 99 []) refused 7 at 28  -- an earlier 7 before a later 4
@@ -99,11 +95,11 @@ order =
     ∷ (b ++ rec 1 (0 ∷ []) ++ rec 2 (1 ∷ [])) refused 11 at 28  -- a good routine that the sheet record does not count
     ∷ (b ++ b) refused 11 at 28  -- a second sheet
     ∷ (body (C 1) ++ (0 ∷ [])) refused 7 at 20  -- EXTRA only behind good routines
-    ∷ body big refused 12 at 20  -- TOO BIG
-    ∷ (body big ++ (0 ∷ [])) refused 11 at 56  -- a later 11 before 12
-    ∷ opened (rec 3 (2 ∷ []) ++ bytes big ++ rec 99 []) refused 4 at 64  -- a later 4
-    ∷ body (S (big ∷ M 1 1 ∷ [])) refused 9 at 64  -- a later 9
-    ∷ take 56 (routines (R 0 big ∷ R 0 (P 1) ∷ [])) refused 3 at 56  -- a later CUT, in the next routine
+    ∷ body large refused 12 at 20  -- TOO BIG
+    ∷ (body large ++ (0 ∷ [])) refused 11 at 56  -- a later 11 before 12
+    ∷ opened (rec 3 (2 ∷ []) ++ bytes large ++ rec 99 []) refused 4 at 64  -- a later 4
+    ∷ body (S (large ∷ M 1 1 ∷ [])) refused 9 at 64  -- a later 9
+    ∷ take 56 (routines (R 0 large ∷ R 0 (P 1) ∷ [])) refused 3 at 56  -- a later CUT, in the next routine
     ∷ []
 
 pub order-holds : answers order ≡ stated order
@@ -124,6 +120,6 @@ pub rooms : map (answer b) (0 ∷ 63 ∷ 64 ∷ 65 ∷ []) ≡ Verdict.refused 1
 unfolding answers
 rooms = refl
 
-pub room-first : map (λ s. answer s 63) (replicate 60001 0 ∷ [] ∷ body big ∷ []) ≡ replicate 3 (Verdict.refused 1 0)
+pub room-first : map (λ s. answer s 63) (replicate 60001 0 ∷ [] ∷ body large ∷ []) ≡ replicate 3 (Verdict.refused 1 0)
 unfolding answers
 room-first = refl

@@ -1,9 +1,11 @@
 -- Laws of the definitions that proofs share: of tests, of the table of records, and of how long a record is.
-use Prim.Native.Nat.{ℕ, _*_}
+use Prim.Native.Nat.{ℕ, _*_, _≤_}
 use mathlib.Core.Path.{_≡_, refl, sym}
 use mathlib.Core.Bool.{Bool, true, false, false≢true}
 use mathlib.Core.List.{List, [], _∷_}
 use lib.ListN.{length}
+use lib.Dec.{leb}
+use borrow.Author.Tests.{leb-true}
 use native.Mathlib.Omega.{arith}
 use Rattle.meaning.specs.Format.{pick, Range, within, lengthOf, inRanges, Record, words, recordBytes}
 
@@ -15,6 +17,10 @@ pick-true false b h = absurd (false≢true h)
 pub pick-false : (t b : Bool) → pick t true b ≡ false → (t ≡ false) × (b ≡ false)
 pick-false true b h = absurd (false≢true (sym h))
 pick-false false b h = (refl, h)
+
+-- a number within a range
+pub within-is : (r : Range) (x : ℕ) → within r x ≡ true → (r .least ≤ x) × (x ≤ r .most)
+within-is r x h = let (low, high) = pick-true (leb (r .least) x) (leb x (r .most)) h in (leb-true (r .least) x low, leb-true x (r .most) high)
 
 -- fields in their ranges are as many as the ranges
 pub in-ranges-length : (ranges : List Range) (fields : List ℕ) → inRanges ranges fields ≡ true → length ranges ≡ length fields

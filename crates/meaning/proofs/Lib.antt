@@ -6,5 +6,6 @@ pub mod Faults
 pub mod Edges
 pub mod Values
 pub mod Returns
+pub mod Columns
 pub mod Legality
 pub mod Laws

@@ -5,37 +5,39 @@ use mathlib.Core.List.{List, [], _∷_}
 use lib.ListN.{take}
 use Rattle.meaning.specs.Tree.{Construct}
 use Rattle.meaning.proofs.Notation.{P, S, A, H, H*, T, T*, W, M, C, R}
-use Rattle.meaning.proofs.Rows.{Case, routines, body, _gives_, _refused_at_, answers, stated}
+use Rattle.meaning.proofs.Rows.{Case, routines, body, choice, scoped, tailed, _gives_, _refused_at_, answers, stated}
 
 -- an alternative with a marked branch: its value 3, excess 3, limit 2; its marker 24 bytes behind its start
 abbrev K : Construct
-K = A (P 0) (S (M 2 6 ∷ []) ∷ P 3 ∷ [])
+K = choice 2 6 3
 
--- scopes with this body
+-- scopes around a body, and a loop with scope 0
 abbrev Scope : Construct → Construct
-Scope c = T* 3 c (P 0) (S [])
+Scope c = scoped 3 c
 
 abbrev Inner : Construct → Construct
-Inner c = T* 4 c (P 0) (S [])
+Inner c = scoped 4 c
 
--- loops with scope 0
-abbrev Loop : Construct → Construct
-Loop c = T 4 c (P 0) (S [])
+abbrev Repeat : Construct → Construct
+Repeat c = tailed 4 c
 
 pub stray : List Case
 stray =
     body K refused 9 at 44  -- in no scope
     ∷ body (H 3 (P 1) (P 1) K (S [])) refused 9 at 72  -- in a loop, but its scope is 0: head loop
-    ∷ body (Loop K) refused 9 at 56  -- tail loop
+    ∷ body (Repeat K) refused 9 at 56  -- tail loop
     ∷ body (S (Scope (P 0) ∷ K ∷ [])) refused 9 at 88  -- behind a scope
     ∷ body (M 1 1) refused 9 at 20  -- a body: a construct in a wrong place, not BAD KIND
     ∷ body (Scope (M 1 1)) refused 9 at 32  -- a scope's body
     ∷ body (Scope (S (M 1 1 ∷ []))) refused 9 at 40  -- first child of a sequence that is no branch
     ∷ body (Scope (S (K ∷ S (M 1 1 ∷ []) ∷ []))) refused 9 at 92  -- the same behind a good marker
+    ∷ body (Scope (Repeat (M 1 1))) refused 9 at 44  -- the body of a loop with scope 0
+    ∷ body (Scope (Repeat (S (M 1 1 ∷ [])))) refused 9 at 52  -- first child of a sequence that is such a body
     ∷ body (Scope (A (P 0) (M 1 1 ∷ P 1 ∷ []))) refused 9 at 48  -- a branch itself
     ∷ body (Scope (A (P 0) (S (P 1 ∷ M 1 1 ∷ []) ∷ P 1 ∷ []))) refused 9 at 64  -- second child of a branch
     ∷ body (Scope (A (P 0) (S (M 1 1 ∷ M 1 1 ∷ []) ∷ P 1 ∷ []))) refused 9 at 68  -- second child of a marked branch
     ∷ body (Scope (A (P 0) (S (S (M 1 1 ∷ []) ∷ []) ∷ P 1 ∷ []))) refused 9 at 64  -- first child of a branch's first child
+    ∷ body (Scope (A (P 0) (S (P 1 ∷ S (M 1 1 ∷ []) ∷ []) ∷ P 1 ∷ []))) refused 9 at 72  -- of a later child
     ∷ body (Scope (A (S (M 1 1 ∷ [])) (P 1 ∷ P 1 ∷ []))) refused 9 at 48  -- an alternative's condition
     ∷ body (Scope (A K (P 1 ∷ P 2 ∷ []))) refused 9 at 64  -- an alternative in an alternative's condition
     ∷ body (H* 3 K (P 1) (P 1) (S [])) refused 9 at 56  -- the scope's own init
@@ -48,13 +50,15 @@ stray =
     ∷ body (Scope (H 2 (P 0) (P 0) (P 0) K)) refused 9 at 92  -- its overrun
     ∷ body (Scope (T 2 (P 0) K (S []))) refused 9 at 76  -- a tail loop's condition
     ∷ body (Scope (T 2 (P 0) (P 0) K)) refused 9 at 84  -- its overrun
-    ∷ body (Scope (H* 4 (P 0) K (P 0) (S []))) refused 9 at 76  -- in a scope, the condition of an inner scope
+    ∷ body (Scope (H* 4 K (P 0) (P 0) (S []))) refused 9 at 68  -- in a scope, the init of an inner scope
+    ∷ body (Scope (H* 4 (P 0) K (P 0) (S []))) refused 9 at 76  -- its condition
+    ∷ body (Scope (H* 4 (P 0) (P 0) (P 0) K)) refused 9 at 92  -- its overrun
     ∷ body (Scope (W 1 K)) refused 9 at 64  -- a timeout statement
-    ∷ body (Scope (A (P 0) (Loop K ∷ P 2 ∷ []))) refused 9 at 84  -- a loop with scope 0 inside an alternative of the scope: as the branch
-    ∷ body (Scope (A (P 0) (S (Loop K ∷ []) ∷ P 2 ∷ []))) refused 9 at 92  -- as a branch's first child
+    ∷ body (Scope (A (P 0) (Repeat K ∷ P 2 ∷ []))) refused 9 at 84  -- a loop with scope 0 inside an alternative of the scope: as the branch
+    ∷ body (Scope (A (P 0) (S (Repeat K ∷ []) ∷ P 2 ∷ []))) refused 9 at 92  -- as a branch's first child
     ∷ body (Scope (A (P 0) (P 2 ∷ S (P 1 ∷ H 4 (P 0) (P 0) K (S []) ∷ []) ∷ []))) refused 9 at 124  -- as a later child
-    ∷ body (Scope (A (P 0) (S (M 1 1 ∷ Loop K ∷ []) ∷ P 2 ∷ []))) refused 9 at 104  -- in a marked branch
-    ∷ body (Scope (Loop (A (P 0) (Loop K ∷ P 2 ∷ [])))) refused 9 at 96  -- with another such loop around the alternative
+    ∷ body (Scope (A (P 0) (S (M 1 1 ∷ Repeat K ∷ []) ∷ P 2 ∷ []))) refused 9 at 104  -- in a marked branch
+    ∷ body (Scope (Repeat (A (P 0) (Repeat K ∷ P 2 ∷ [])))) refused 9 at 96  -- with another such loop around the alternative
     ∷ routines (R 0 K ∷ R 0 (Scope (C 1)) ∷ []) refused 9 at 44  -- in a called routine: "in the same routine"
     ∷ []
 
@@ -67,16 +71,16 @@ legal =
     body (Scope K) gives 15  -- straight in a tail loop: 3 x 3, and 2 x 3
     ∷ body (H* 3 (P 1) (P 1) K (S [])) gives 20  -- and in a head loop
     ∷ body (Scope (S (P 1 ∷ K ∷ []))) gives 18  -- through a sequence
-    ∷ body (Scope (Loop K)) gives 42  -- through a tail loop with scope 0
+    ∷ body (Scope (Repeat K)) gives 42  -- through a tail loop with scope 0
     ∷ body (Scope (H 4 (P 0) (P 0) K (S []))) gives 42  -- through a head loop
     ∷ body (Scope (A (P 0) (K ∷ P 2 ∷ []))) gives 15  -- through an alternative: as the branch
     ∷ body (Scope (A (P 0) (S (K ∷ []) ∷ P 2 ∷ []))) gives 15  -- as a branch's first child
     ∷ body (Scope (A (P 0) (S (P 1 ∷ K ∷ []) ∷ P 2 ∷ []))) gives 18  -- as a later child
     ∷ body (Scope (A (P 0) (S (M 1 1 ∷ K ∷ []) ∷ P 2 ∷ []))) gives 14  -- in a marked branch: 3 x 2, 1 x (4 - 2) and 2 x 3
     ∷ body (Scope (A (P 0) (Inner K ∷ P 2 ∷ []))) gives 54  -- a new scope inside an alternative
-    ∷ body (Scope (A (P 0) (Inner (Loop K) ∷ P 2 ∷ []))) gives 162  -- that alternative lies outside the new scope, so a loop may follow
-    ∷ body (Scope (A (P 0) (Loop (Inner K) ∷ P 2 ∷ []))) gives 216  -- a new scope in a loop with scope 0 in an alternative
-    ∷ body (A (P 0) (Scope (Loop K) ∷ P 2 ∷ [])) gives 42  -- an alternative around the whole scope
+    ∷ body (Scope (A (P 0) (Inner (Repeat K) ∷ P 2 ∷ []))) gives 162  -- that alternative lies outside the new scope, so a loop may follow
+    ∷ body (Scope (A (P 0) (Repeat (Inner K) ∷ P 2 ∷ []))) gives 216  -- a new scope in a loop with scope 0 in an alternative
+    ∷ body (A (P 0) (Scope (Repeat K) ∷ P 2 ∷ [])) gives 42  -- an alternative around the whole scope
     ∷ body (T* 3 (P 1) (Inner K) (S [])) gives 57  -- a new scope in a condition: 3 x (1 + 18)
     ∷ body (Scope (W 1 (A (Inner K) (P 1 ∷ P 2 ∷ [])))) gives 63  -- in a timeout statement and in an alternative's condition
     ∷ []

@@ -1,12 +1,11 @@
--- Document 01, "What comes back": the table after, the routine part, and a refusal's bound. "The sheet": lengths, and case b in bytes.
+-- Document 01, "What comes back": the table after, the routine part, and a refusal's bound.
 use Prim.Native.Nat.{ℕ, zero, suc}
 use mathlib.Core.Path.{_≡_, refl}
-use mathlib.Core.List.{List, [], _∷_, _++_, map}
-use lib.ListN.{length}
-use Rattle.meaning.specs.Format.{sheetRows, routineRows, constructRows, lengthOf, routineBytes}
+use mathlib.Core.List.{List, [], _∷_, map}
+use Rattle.meaning.specs.Format.{routineBytes}
 use Rattle.meaning.specs.Answer.{boundIn, tableAfter, Part, partOf, routinePart, answer}
-use Rattle.meaning.proofs.Notation.{P, S, T, C, R}
-use Rattle.meaning.proofs.Rows.{routines, answers}
+use Rattle.meaning.proofs.Notation.{P, S, C, R}
+use Rattle.meaning.proofs.Rows.{routines, large, answers}
 
 -- a table in which every place differs: n, n - 1 and so on
 abbrev lent : ℕ → List ℕ
@@ -22,8 +21,8 @@ abbrev bad : List ℕ
 bad = routines (R 3 (P 1) ∷ R 5 (S (C 2 ∷ [])) ∷ [])
 
 -- the second routine is TOO BIG
-abbrev large : List ℕ
-large = routines (R 3 (P 1) ∷ R 0 (T 257 (P 4294967295) (P 0) (S [])) ∷ [])
+abbrev tooBig : List ℕ
+tooBig = routines (R 3 (P 1) ∷ R 0 large ∷ [])
 
 -- A sheet, the lent table, and the table after.
 pub record Lending : Type 0 where
@@ -40,7 +39,7 @@ lendings =
     ∷ lending good (lent 65) (4 ∷ 9 ∷ lent 63)  -- a longer table
     ∷ lending good (lent 63) (lent 63)  -- NO ROOM: unchanged
     ∷ lending bad (lent 64) (lent 64)  -- refused: unchanged
-    ∷ lending large (lent 64) (lent 64)  -- TOO BIG: unchanged, the first routine's place too
+    ∷ lending tooBig (lent 64) (lent 64)  -- TOO BIG: unchanged, the first routine's place too
     ∷ []
 
 pub tables-after : map (λ l. tableAfter (l .sheet) (l .before)) lendings ≡ map (λ l. l .after) lendings
@@ -48,7 +47,7 @@ unfolding lendings tableAfter answers
 tables-after = refl
 
 -- "a refusal's bound is 0"
-pub bounds-told : map (λ s. boundIn (answer s 64)) (good ∷ bad ∷ large ∷ []) ≡ 9 ∷ 0 ∷ 0 ∷ []
+pub bounds-told : map (λ s. boundIn (answer s 64)) (good ∷ bad ∷ tooBig ∷ []) ≡ 9 ∷ 0 ∷ 0 ∷ []
 unfolding answers
 bounds-told = refl
 
@@ -62,7 +61,7 @@ unfolding partOf answers
 parts = refl
 
 -- "or a sheet refused for anything but NO ROOM"
-pub parts-refused : map (λ s. partOf s 1) ([] ∷ bad ∷ large ∷ []) ≡ 0 upTo 0 ∷ 52 upTo 52 ∷ 72 upTo 72 ∷ []
+pub parts-refused : map (λ s. partOf s 1) ([] ∷ bad ∷ tooBig ∷ []) ≡ 0 upTo 0 ∷ 52 upTo 52 ∷ 72 upTo 72 ∷ []
 unfolding partOf answers
 parts-refused = refl
 
@@ -70,18 +69,3 @@ parts-refused = refl
 pub part-bytes : map (routinePart good) (0 ∷ 1 ∷ 2 ∷ []) ≡ [] ∷ routineBytes (R 3 (P 1)) ∷ routineBytes (R 5 (S (C 1 ∷ []))) ∷ []
 unfolding routinePart partOf answers
 part-bytes = refl
-
--- the columns "Kind" and "Length" of the table of records
-pub kind-column : map (λ r. r .kind) (sheetRows ++ routineRows ++ constructRows) ≡ 100 ∷ 1 ∷ 2 ∷ 3 ∷ 4 ∷ 5 ∷ 6 ∷ 7 ∷ 8 ∷ 9 ∷ []
-kind-column = refl
-
-pub length-column :
-    map (λ r. lengthOf (length (r .ranges))) (sheetRows ++ routineRows ++ constructRows) ≡ 12 ∷ 8 ∷ 8 ∷ 8 ∷ 8 ∷ 12 ∷ 12 ∷ 8 ∷ 8 ∷ 12 ∷ []
-length-column = refl
-
--- "Case b in bytes": 0C 00 64 00 01 00 00 00 01 00 00 00, 08 00 01 00 05 00 00 00, 08 00 02 00 07 00 00 00
-pub case-b :
-    routines (R 5 (P 7) ∷ [])
-    ≡ (12 ∷ 0 ∷ 100 ∷ 0 ∷ 1 ∷ 0 ∷ 0 ∷ 0 ∷ 1 ∷ 0 ∷ 0 ∷ 0 ∷ []) ++ (8 ∷ 0 ∷ 1 ∷ 0 ∷ 5 ∷ 0 ∷ 0 ∷ 0 ∷ []) ++ (8 ∷ 0 ∷ 2 ∷ 0 ∷ 7 ∷ 0 ∷ 0 ∷ 0 ∷ [])
-unfolding answers
-case-b = refl

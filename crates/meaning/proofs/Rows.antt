@@ -7,7 +7,7 @@ use Rattle.meaning.specs.Value.{pays, total, times, value, bound, bounds
 use Rattle.meaning.specs.Judgement.{refuse, two, four, fieldsOf, judged, list, branches}
 use Rattle.meaning.specs.Judgement.{sequenceAt, alternativeAt, headLoopAt, tailLoopAt, timedLoopAt, constructAt, routineAt, routinesAt, sheetAt}
 use Rattle.meaning.specs.Answer.{ended, endedRoutines, tooBig, Verdict, accepted, outcome, answer}
-use Rattle.meaning.proofs.Notation.{R, sheet}
+use Rattle.meaning.proofs.Notation.{P, S, A, H, T, T*, M, R, sheet}
 
 pub record Case : Type 0 where
   pub sheet : List ℕ
@@ -29,6 +29,23 @@ start length kind = half length ++ half kind
 
 abbrev pub opened : List ℕ → List ℕ
 opened rest = rec 100 (1 ∷ 1 ∷ []) ++ rec 1 (0 ∷ []) ++ rest
+
+-- an alternative with a marked branch of this limit and cost and a plain one; a scope, and a tail and a head loop with scope 0, around a body
+abbrev pub choice : ℕ → ℕ → ℕ → Construct
+choice limit cost plain = A (P 0) (S (M limit cost ∷ []) ∷ P plain ∷ [])
+
+abbrev pub scoped : ℕ → Construct → Construct
+scoped count c = T* count c (P 0) (S [])
+
+abbrev pub tailed : ℕ → Construct → Construct
+tailed count c = T count c (P 0) (S [])
+
+abbrev pub headed : ℕ → Construct → Construct
+headed count c = H count (S []) (S []) c (S [])
+
+-- a construct whose value is over the limit: 257 x 4,294,967,295, in 36 bytes
+abbrev pub large : Construct
+large = tailed 257 (P 4294967295)
 
 infix 68 _gives_
 abbrev pub _gives_ : List ℕ → ℕ → Case

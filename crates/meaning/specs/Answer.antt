@@ -1,5 +1,6 @@
 -- Document 01, "What comes back": accepted with a bound or refused; the table after; the routine part.
 use Prim.Native.Nat.{ℕ, zero, suc, _+_, _-_}
+use mathlib.Core.Bool.{Bool}
 use mathlib.Core.List.{List, [], _∷_, _++_}
 use mathlib.Core.Option.{Option, some, none}
 use lib.ListN.{length, take, drop}
@@ -25,7 +26,7 @@ pastRecord at r = at + lengthOf (length (r .fields))
 abbrev pub past : ℕ → Construct → ℕ
 past at c = at + length (bytes c)
 
-abbrev pub ends : Known → ℕ → Construct → List Ended
+abbrev pub ends : Known → ℕ → Construct → List Ended  -- the construct's own record
 ends known at c = record { place = at; value = value known c } ∷ []
 
 -- "A record ends when its last child has ended": the records of a construct in the order in which they end.
@@ -51,13 +52,13 @@ unfoldable mutual
   endedIn known at end = []
   endedIn known at (c then cs) = ended known at c ++ endedIn known (past at c) cs
 
-unfoldable pub endedRoutines : Known → ℕ → List Routine → List Ended
+unfoldable pub endedRoutines : Known → ℕ → List Routine → List Ended  -- of routines, each after its body
 endedRoutines known at [] = []
 endedRoutines known at (r ∷ rs) =
     ended known (pastRecord at (routineRecord r)) (r .body) ++ (record { place = at; value = bound known r } ∷ [])
     ++ endedRoutines (knowing known (bound known r)) (at + length (routineBytes r)) rs
 
-abbrev pub endedOf : Sheet → List Ended
+abbrev pub endedOf : Sheet → List Ended  -- the sheet record has no value
 endedOf s = endedRoutines nothing (pastRecord 0 (sheetRecord s)) (s .routines)
 
 -- "at the first record to end with too large a value", if there is one
@@ -75,7 +76,7 @@ abbrev pub sized : Sheet → Option ℕ → Verdict Sheet
 sized s none = accepted s
 sized s (some place) = Verdict.refused 12 place
 
-abbrev pub judgement : Reading Sheet → Verdict Sheet
+abbrev pub judgement : Reading Sheet → Verdict Sheet  -- 3 to 11 come before it
 judgement (Reading.refused number place) = Verdict.refused number place
 judgement (Reading.found s next) = sized s (tooBig (endedOf s))
 
@@ -88,9 +89,12 @@ abbrev pub told : Verdict Sheet → Verdict ℕ
 told (accepted s) = accepted (taskBound s)
 told (Verdict.refused number place) = Verdict.refused number place
 
--- "1 and 2 come first, in that order": 1, NO ROOM, "table shorter than 64"; room is the length of the lent table.
+abbrev pub noRoom : ℕ → Bool  -- 1, NO ROOM: "table shorter than 64"
+noRoom room = ltb room 64
+
+-- "1 and 2 come first, in that order"; room is the length of the lent table
 unfoldable pub answer : List ℕ → ℕ → Verdict ℕ
-answer s room = pick (ltb room 64) (Verdict.refused 1 0) (told (outcome s))
+answer s room = pick (noRoom room) (Verdict.refused 1 0) (told (outcome s))
 
 -- "a refusal's bound is 0"
 abbrev pub boundIn : Verdict ℕ → ℕ
@@ -102,15 +106,15 @@ abbrev pub stored : Verdict Sheet → List ℕ → List ℕ
 stored (accepted s) table = boundsOf s ++ drop (length (s .routines)) table
 stored (Verdict.refused number place) table = table
 
-unfoldable pub tableAfter : List ℕ → List ℕ → List ℕ
-tableAfter s table = pick (ltb (length table) 64) table (stored (outcome s) table)
+unfoldable pub tableAfter : List ℕ → List ℕ → List ℕ  -- "The caller lends a table"
+tableAfter s table = pick (noRoom (length table)) table (stored (outcome s) table)
 
 -- "that routine's records as a part of the sheet, from its routine record to the last record of its body": where it starts and ends
 pub record Part : Type 0 where
   pub start : ℕ
   pub stop : ℕ
 
-abbrev pub routinePlace : Sheet → ℕ → ℕ
+abbrev pub routinePlace : Sheet → ℕ → ℕ  -- where the first n routines end
 routinePlace s n = pastRecord 0 (sheetRecord s) + length (routinesBytes (take n (s .routines)))
 
 -- "the empty part at the sheet's end"
@@ -123,8 +127,8 @@ partIn s (accepted t) zero = emptyPart s
 partIn s (accepted t) (suc n) = pick (ltb n (length (t .routines))) (record { start = routinePlace t n; stop = routinePlace t (suc n) }) (emptyPart s)
 partIn s (Verdict.refused number place) number' = emptyPart s
 
-unfoldable pub partOf : List ℕ → ℕ → Part
+unfoldable pub partOf : List ℕ → ℕ → Part  -- of the routine of a number
 partOf s number = partIn s (outcome s) number
 
-unfoldable pub routinePart : List ℕ → ℕ → List ℕ
+unfoldable pub routinePart : List ℕ → ℕ → List ℕ  -- "a part of the sheet"
 routinePart s number = take ((partOf s number) .stop - (partOf s number) .start) (drop ((partOf s number) .start) s)

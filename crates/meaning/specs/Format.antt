@@ -24,7 +24,7 @@ least to most = record { least = least; most = most }
 abbrev pub anything : Range
 anything = 0 to 4294967295
 
--- A row of the table: the kind, and the ranges of its fields in order.
+-- A row of the table: the kind, and from "Ranges: edition 1; routines 1 to 64; children of a sequence 0 to 1,000; .." those of its fields.
 pub record Row : Type 0 where
   pub kind : ℕ
   pub ranges : List Range
@@ -32,13 +32,13 @@ pub record Row : Type 0 where
 abbrev row : ℕ → List Range → Row
 row kind ranges = record { kind = kind; ranges = ranges }
 
-abbrev pub sheetRows : List Row
+abbrev pub sheetRows : List Row  -- the sheet record
 sheetRows = row 100 (1 to 1 ∷ 1 to 64 ∷ []) ∷ []  -- edition, routines
 
-abbrev pub routineRows : List Row
+abbrev pub routineRows : List Row  -- the routine records
 routineRows = row 1 (anything ∷ []) ∷ []  -- organisation cost
 
-abbrev pub constructRows : List Row
+abbrev pub constructRows : List Row  -- "Kinds 2 to 9 are constructs."
 constructRows =
     row 2 (anything ∷ [])  -- cost
     ∷ row 3 (0 to 1000 ∷ [])  -- n
@@ -63,7 +63,7 @@ rangesOf kind (r ∷ rs) = pick (eqb kind (r .kind)) (r .ranges) (rangesOf kind 
 abbrev pub lengthOf : ℕ → ℕ
 lengthOf fields = 4 + 4 * fields
 
-abbrev pub within : Range → ℕ → Bool
+abbrev pub within : Range → ℕ → Bool  -- from the least to the most
 within r x = pick (leb (r .least) x) (leb x (r .most)) false
 
 unfoldable pub inRanges : List Range → List ℕ → Bool  -- each field in its range
@@ -76,20 +76,20 @@ pub record Record : Type 0 where  -- as it stands in a sheet
   pub kind : ℕ
   pub fields : List ℕ
 
-abbrev pub field : Record → ℕ → ℕ
+abbrev pub field : Record → ℕ → ℕ  -- from 0
 field r i = getD (r .fields) i 0
 
-abbrev pub InRange : List Row → Record → Type 0
+abbrev pub InRange : List Row → Record → Type 0  -- no "field outside its range"
 InRange rows r = inRanges (rangesOf (r .kind) rows) (r .fields) ≡ true
 
-abbrev of : ℕ → List ℕ → Record
+abbrev pub of : ℕ → List ℕ → Record
 of kind fields = record { kind = kind; fields = fields }
 
-abbrev pub flag : Bool → ℕ
+abbrev pub flag : Bool → ℕ  -- "scope 0 or 1"
 flag true = 1
 flag false = 0
 
-abbrev pub howMany : Constructs → ℕ
+abbrev pub howMany : Constructs → ℕ  -- the field n
 howMany end = 0
 howMany (c then cs) = suc (howMany cs)
 
@@ -117,11 +117,11 @@ half n = n % 256 ∷ n / 256 ∷ []
 abbrev pub word : ℕ → List ℕ
 word n = n % 256 ∷ n / 256 % 256 ∷ n / 65536 % 256 ∷ n / 16777216 ∷ []
 
-unfoldable pub words : List ℕ → List ℕ
+unfoldable pub words : List ℕ → List ℕ  -- the fields
 words [] = []
 words (x ∷ xs) = word x ++ words xs
 
-unfoldable pub recordBytes : Record → List ℕ
+unfoldable pub recordBytes : Record → List ℕ  -- length, kind, fields
 recordBytes r = half (lengthOf (length (r .fields))) ++ (half (r .kind) ++ words (r .fields))
 
 -- The bytes of a construct: its record, then what it owns, in order.

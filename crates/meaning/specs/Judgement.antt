@@ -43,13 +43,13 @@ unfoldable pub fieldsOf : List Range → List ℕ → List ℕ
 fieldsOf [] xs = []
 fieldsOf (r ∷ rs) xs = four xs ∷ fieldsOf rs (drop 4 xs)
 
--- What is owed at a place: the sheet, a routine, or a construct, with the number of its routine, the depths left (24 for a body, 0 at
--- depth 25), its reach, and whether it is a last branch whose fellows are all marked, or stands first in one.
+-- What is owed: the sheet, a routine, or a construct; of this its routine's number, the depths left (24 for a body, 0 at depth 25), its
+-- reach, and whether it is a last branch whose fellows are all marked, or is reached from one by first children alone.
 pub data Owed : Type 0 where
   sheet routine : Owed
   construct : ℕ → ℕ → Reach → Bool → Owed
 
-abbrev pub rowsOf : Owed → List Row
+abbrev pub rowsOf : Owed → List Row  -- 4: "not what is owed here"
 rowsOf sheet = sheetRows
 rowsOf routine = routineRows
 rowsOf (construct own left r last) = constructRows
@@ -91,7 +91,7 @@ judged s owed at =
     (refuse (not (inRanges ranges (x .fields))) 6 at  -- BAD FIELD
     (placed owed x at (found x (at + size)))))))
 
--- how a construct is read by its reach and by whether it is or stands first in such a last branch
+-- how a construct is read, by its reach and by whether it is such a last branch or leads one
 abbrev pub ConstructReader : Type 0
 ConstructReader = Reach → Bool → Reader Construct
 
@@ -100,7 +100,7 @@ unfoldable pub list : ConstructReader → Reach → Bool → Reach → ℕ → R
 list read f last l zero = found end
 list read f last l (suc n) = do c ← read f last; cs ← list read l false l n; found (c then cs)
 
-abbrev pub isMarked : Option Marker → Bool
+abbrev pub isMarked : Option Marker → Bool  -- "That branch is marked"
 isMarked none = false
 isMarked (some m) = true
 
@@ -133,7 +133,7 @@ tailLoopAt read r l = do b ← read (asBody (l .scope) r) false; c ← read nowh
 unfoldable pub timedLoopAt : ConstructReader → ℕ → Reader Construct
 timedLoopAt read time = do o ← read nowhere false; found (timedLoop (record { time = time }) o)
 
-abbrev pub loopOf : Record → Loop
+abbrev pub loopOf : Record → Loop  -- fields count, scope
 loopOf x = record { count = field x 0; scope = eqb (field x 1) 1 }
 
 -- "A construct is read with the list of constructs it owns"; of kinds 2 to 9 the last is the marker.

@@ -75,5 +75,5 @@ abbrev pub LegalRoutines : ℕ → List Routine → Type 0
 LegalRoutines before [] = Unit {0}
 LegalRoutines before (r ∷ rs) = InRange routineRows (routineRecord r) × Legal before 1 nowhere (r .body) × LegalRoutines (before + 1) rs
 
-abbrev pub LegalSheet : Sheet → Type 0
+abbrev pub LegalSheet : Sheet → Type 0  -- "edition 1; routines 1 to 64"
 LegalSheet s = InRange sheetRows (sheetRecord s) × LegalRoutines 0 (s .routines)

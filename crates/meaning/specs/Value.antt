@@ -45,7 +45,7 @@ abbrev pub larger : Option Marker → ℕ → ℕ → ℕ
 larger none v others = max v others
 larger (some m) v others = others
 
-abbrev pub marked : Option Marker → ℕ → List Marked
+abbrev pub marked : Option Marker → ℕ → List Marked  -- a branch, if it is marked
 marked none excess = []
 marked (some m) excess = record { limit = m .limit; excess = excess } ∷ []
 
@@ -105,23 +105,21 @@ unfoldable mutual
 unfoldable pub bound : Known → Routine → ℕ
 bound known r = r .organisation + value known (r .body)
 
-abbrev pub knowing : Known → ℕ → Known
+abbrev pub knowing : Known → ℕ → Known  -- one routine more
 knowing known v = record { bounds = known .bounds ++ (v ∷ []) }
 
--- the values of routines, in order, after those that are known
-unfoldable pub bounds : Known → List Routine → Known
+unfoldable pub bounds : Known → List Routine → Known  -- routines in order, after those that are known
 bounds known [] = known
 bounds known (r ∷ rs) = bounds (knowing known (bound known r)) rs
 
-abbrev pub nothing : Known
+abbrev pub nothing : Known  -- before the first routine
 nothing = record { bounds = [] }
 
-abbrev pub boundsOf : Sheet → List ℕ
+abbrev pub boundsOf : Sheet → List ℕ  -- "A bound for each routine"
 boundsOf s = (bounds nothing (s .routines)) .bounds
 
--- the bound of the routine of a number; "the last is the task"
-abbrev pub boundAt : Sheet → ℕ → ℕ
+abbrev pub boundAt : Sheet → ℕ → ℕ  -- of the routine of a number
 boundAt s number = numbered (boundsOf s) number 0
 
-abbrev pub taskBound : Sheet → ℕ
+abbrev pub taskBound : Sheet → ℕ  -- "the last is the task"
 taskBound s = boundAt s (length (s .routines))

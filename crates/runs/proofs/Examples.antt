@@ -11,10 +11,10 @@ use Rattle.meaning.specs.Format.{rangesOf, inRanges}
 use Rattle.meaning.specs.Legal.{LegalSheet}
 use Rattle.meaning.specs.Value.{pays, total, times, value, bound, bounds}
 use Rattle.meaning.proofs.Cases.{l}
-use Rattle.meaning.proofs.Notation.{P, S, A, H, H*, T, W, M, R, sheet}
+use Rattle.meaning.proofs.Notation.{P, S, A, H, H*, T, T*, W, M, C, R, sheet}
 use Rattle.runs.specs.Run.{Tally, never, _⊕_, empty, both, limits, handed, scope, World}
-use Rattle.runs.specs.Run.{Run, Taken, Rounds, Again, Tested, takes, allowed, begin, RoutineTakes}
-use Rattle.runs.specs.Run.{act, pass, children, choose, head, tail, wait, timeout, done, next, this, other, without, overrun, stop, again, tested}
+use Rattle.runs.specs.Run.{Run, Taken, Rounds, Again, Tested, takes, allowed, begin, RoutineTakes, SheetTakes}
+use Rattle.runs.specs.Run.{act, pass, children, choose, head, tail, wait, timeout, enter, done, next, this, other, without, overrun, stop, again, tested}
 use Rattle.runs.specs.Premise.{SingleSheet}
 use Rattle.runs.proofs.Sound.{sheet-sound}
 use Rattle.runs.proofs.Reached.{sheet-reached}
@@ -98,6 +98,17 @@ head-loop n = (to, from)
     from (inr (inl e)) = build 7 (inr (inl refl)) e
     from (inr (inr e)) = build 11 (inr (inr refl)) e
 
+-- "Up to count times": two rounds of three.
+pub two-of-three : Run begin (H 3 (P 1) (P 2) (P 5) (P 4)) 17 []
+unfolding limits never _⊕_
+two-of-three =
+    let three : Loop = record { count = 3; scope = false } in
+    let low : 0 ≤ 2 = omega arith in
+    let high : 2 ≤ 3 = omega arith in
+    let last = again {l = three} (act refl) (tested (act refl)) (stop refl) refl refl in
+    let rounds = again (act refl) (tested (act refl)) last refl refl in
+    head (act refl) (tested (act refl)) (without {l = three} low high rounds (handed refl)) refl
+
 -- A tail loop runs its body at least once.
 pub tail-loop : (n : ℕ) → Run begin (T 1 (P 5) (P 2) (P 4)) n [] ↔ (n ≡ 7 ⊎ n ≡ 11)
 tail-loop n = (to, from)
@@ -121,15 +132,18 @@ timed-loop n = (to, from)
     to (timeout h r e) = inr (let x = cost-only r in omega arith)
 
     from : (n ≤ 3) ⊎ (6 ≤ n) × (n ≤ 9) → Run begin (W 3 (P 6)) n []
-    from (inl h) = wait h
+    from (inl h) = wait {w = record { time = 3 }} {n = n} (omega arith)
     from (inr h) =
         let x : n - 6 ≤ 3 = omega arith in
         let e : n ≡ n - 6 + 6 = omega arith in
         timeout x (act refl) e
 
 -- A marker is counted afresh in each entry of its scope: with limit 1 two rounds cannot both pass it, but each of two entries can.
+abbrev limited-choice : Construct
+limited-choice = A (P 0) (S (M 1 0 ∷ P 7 ∷ []) ∷ P 0 ∷ [])
+
 abbrev limited : Construct
-limited = H* 2 (P 0) (P 0) (A (P 0) (S (M 1 0 ∷ P 7 ∷ []) ∷ P 0 ∷ [])) (P 0)
+limited = H* 2 (P 0) (P 0) limited-choice (P 0)
 
 abbrev task : Construct → Sheet
 task body = sheet (R 0 body ∷ [])
@@ -160,6 +174,37 @@ single = search arith
 pub attained : RoutineTakes (task limited) 1 7
 unfolding bounds bound value times total pays
 attained = sheet-reached (task limited) legal single 1 (omega arith) (omega arith)
+
+-- A call runs organisation and body of the named routine.
+abbrev calling : Sheet
+calling = sheet (R 3 (P 4) ∷ R 5 (C 1) ∷ [])
+
+pub called : (n : ℕ) → RoutineTakes calling 2 n ↔ (n ≡ 12)
+unfolding allowed
+called n = (to n, from)
+  where
+    first : {m : ℕ} → RoutineTakes calling 1 m → m ≡ 7
+    first (takes e r) = let x = cost-only r in omega arith
+
+    to : (m : ℕ) → RoutineTakes calling 2 m → m ≡ 12
+    to m (takes e (enter r)) = let x = first r in omega arith
+
+    from : n ≡ 12 → RoutineTakes calling 2 n
+    from e = rw e (takes refl (enter (takes refl (act refl))))
+
+-- "A run of the sheet is a run of its last routine."
+pub last-routine : (n : ℕ) → SheetTakes (sheet (R 9 (P 9) ∷ R 0 (P 1) ∷ [])) n → n ≡ 1
+unfolding allowed
+last-routine n (takes e r) = let x = cost-only r in omega arith
+
+-- The premise holds of a sheet with every kind of record, and not of case l.
+pub every-single : SingleSheet (sheet (R 3 (W 9 (H 2 (P 1) (P 2) (P 3) (S []))) ∷ R 5 (S (C 1 ∷ T* 3 (T 2 limited-choice (P 0) (S [])) (P 0) (S []) ∷ [])) ∷ []))
+unfolding limits
+every-single = search arith
+
+pub l-not-single : SingleSheet (task l) → ⊥
+unfolding limits
+l-not-single h = let two = h .0 .4 in omega arith
 
 -- Case l: its bound is 130, and no run takes more than 70, since a round runs one branch. So the second half needs its premise.
 abbrev branches-l : Constructs

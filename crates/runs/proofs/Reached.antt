@@ -5,17 +5,14 @@ use mathlib.Core.Bool.{Bool, true, false}
 use mathlib.Core.Logic.{inr}
 use mathlib.Core.List.{List, [], _∷_, _++_}
 use lib.ListN.{length, length-append}
-use lib.Dec.{leb}
 use native.Mathlib.Omega.{arith}
-use native.Mathlib.Nat.{le-refl}
-use borrow.Author.Tests.{leb-true}
 use Rattle.meaning.specs.Tree.{Loop, Construct, Constructs, Routine, Sheet, seenOutside}
 use Rattle.meaning.specs.Tree.{primitive, sequence, alternative, headLoop, tailLoop, timedLoop, call, marker, end, _then_}
-use Rattle.meaning.specs.Format.{rangesOf, inRanges}
+use Rattle.meaning.specs.Format.{_to_, rangesOf, inRanges}
 use Rattle.meaning.specs.Value.{Marked, total, times, evaluation, rounds, Known, value, sum, largest}
 use Rattle.meaning.specs.Value.{markedIn, charges, chargesIn, bound, knowing, bounds, nothing, boundAt}
 use Rattle.meaning.specs.Legal.{Reach, nowhere, firstChild, laterChild, asBranch, asBody, Plain, Fit, Legal, Legals, LegalRoutines, LegalSheet}
-use Rattle.meaning.proofs.Laws.{pick-true}
+use Rattle.meaning.proofs.Laws.{pick-true, within-is}
 use Rattle.runs.specs.Run.{Tally, never, _⊕_, Within, empty, limits, limitsIn, handed, scope, Spends, World}
 use Rattle.runs.specs.Run.{Run, Runs, Rounds, Again, Tested, Takes, takes, allowed, RoutineTakes}
 use Rattle.runs.specs.Run.{act, pass, children, choose, head, tail, timeout, enter, done, next, overrun, stop, again, tested}
@@ -41,7 +38,7 @@ spends-all cost = refl
 -- the range of a tail loop's count starts at 1
 tail-count : (depth : ℕ) (l : Loop) (b c o : Construct) → Fit depth (tailLoop l b c o) → 1 ≤ l .count
 unfolding rangesOf inRanges
-tail-count depth l b c o fit = leb-true 1 (l .count) (pick-true (leb 1 (l .count)) (leb (l .count) 1000000) (pick-true _ _ (fit .0) .0) .0)
+tail-count depth l b c o fit = within-is (1 to 1000000) (l .count) (pick-true _ _ (fit .0) .0) .0
 
 module _ (world : World) (known : Known) where
   -- every plan for the markers of a construct is met: a run takes its value and what the plan costs, and keeps to the plan
@@ -184,7 +181,7 @@ module _ (world : World) (known : Known) (before : ℕ) (all : before ≡ length
         let y = loops world known l b c o 1 (tail-count depth l b c o (h .0)) body t over (l .scope) refl (s .3) q f in
         record { tally = y .tally; run = tail (y .run); small = y .small }
     meet depth (timedLoop w o) r h s =
-        meet-bare world known (timedLoop w o) (timeout (le-refl (w .time)) (alone (suc depth) o (h .1) (meet (suc depth) o nowhere (h .1) s)) refl) refl
+        meet-bare world known (timedLoop w o) (timeout {x = w .time} (omega arith) (alone (suc depth) o (h .1) (meet (suc depth) o nowhere (h .1) s)) refl) refl
     meet depth (call k) r h s = meet-bare world known (call k) (enter (along-at earlier (k .routine) (inr (omega arith)))) refl
     meet depth (marker m) r h s = meet-bare world known (marker m) (pass (spends-all (m .cost))) refl
 

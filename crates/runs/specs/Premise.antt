@@ -30,9 +30,9 @@ abbrev mutual
   Singles end = Unit {0}
   Singles (c then cs) = Single c × Singles cs
 
-abbrev pub SingleRoutines : List Routine → Type 0
+abbrev pub SingleRoutines : List Routine → Type 0  -- every routine, called or not
 SingleRoutines [] = Unit {0}
 SingleRoutines (r ∷ rs) = Single (r .body) × SingleRoutines rs
 
-abbrev pub SingleSheet : Sheet → Type 0
+abbrev pub SingleSheet : Sheet → Type 0  -- the premise
 SingleSheet s = SingleRoutines (s .routines)
