@@ -37,7 +37,11 @@ stray =
     ∷ body (Scope (A (P 0) (S (P 1 ∷ M 1 1 ∷ []) ∷ P 1 ∷ []))) refused 9 at 64  -- second child of a branch
     ∷ body (Scope (A (P 0) (S (M 1 1 ∷ M 1 1 ∷ []) ∷ P 1 ∷ []))) refused 9 at 68  -- second child of a marked branch
     ∷ body (Scope (A (P 0) (S (S (M 1 1 ∷ []) ∷ []) ∷ P 1 ∷ []))) refused 9 at 64  -- first child of a branch's first child
-    ∷ body (Scope (A (P 0) (S (P 1 ∷ S (M 1 1 ∷ []) ∷ []) ∷ P 1 ∷ []))) refused 9 at 72  -- of a later child
+    ∷ body (Scope (A (P 0) (S (S (P 1 ∷ M 1 1 ∷ []) ∷ []) ∷ P 1 ∷ []))) refused 9 at 72  -- second child of it
+    ∷ body (Scope (A (P 0) (S (P 1 ∷ S (M 1 1 ∷ []) ∷ []) ∷ P 1 ∷ []))) refused 9 at 72  -- first child of a later child
+    ∷ body (Scope (A (P 0) (S (A (P 0) (M 1 1 ∷ P 1 ∷ []) ∷ []) ∷ P 1 ∷ []))) refused 9 at 72  -- a branch in a branch's first child
+    ∷ body (A (P 0) (Scope (S (M 1 1 ∷ [])) ∷ P 1 ∷ [])) refused 9 at 56  -- a scope that is a branch: first in its body
+    ∷ body (A (P 0) (S (Scope (M 1 1) ∷ []) ∷ P 1 ∷ [])) refused 9 at 56  -- a scope that is first in a branch: its body
     ∷ body (Scope (A (S (M 1 1 ∷ [])) (P 1 ∷ P 1 ∷ []))) refused 9 at 48  -- an alternative's condition
     ∷ body (Scope (A K (P 1 ∷ P 2 ∷ []))) refused 9 at 64  -- an alternative in an alternative's condition
     ∷ body (H* 3 K (P 1) (P 1) (S [])) refused 9 at 56  -- the scope's own init

@@ -32,6 +32,7 @@ values =
     ∷ body (scoped 3 (H* 4 (S []) (S []) (choice 3 10 1) (S []))) gives 93  -- a head loop in it: 3 x (4 x 1 + 3 x 9)
     ∷ body (scoped 3 (A (P 0) (S (M 2 1 ∷ scoped 4 (choice 3 10 1) ∷ []) ∷ P 5 ∷ []))) gives 69  -- in a marked branch: 3 x 5 + 2 x (32 - 5)
     ∷ body (scoped 3 (A (P 1) (P 6 ∷ choice 2 3 0 ∷ []))) gives 27  -- a marker in a plain branch is paid even where another branch is larger
+    ∷ body (H* 2 (P 0) (P 0) (A (P 0) (A (P 0) (S (M 2 0 ∷ P 5 ∷ []) ∷ P 0 ∷ []) ∷ P 3 ∷ [])) (P 0)) gives 16  -- and no run takes more than 10
     ∷ body (H* 0 (P 1) (P 2) (choice 7 10 2) (S [])) gives 3  -- a scope's count 0: no passes
     ∷ body (scoped 3 (headed 0 (choice 7 10 2))) gives 0  -- a count 0 between: the product is 0
     ∷ body (H* 1000000 (S []) (S []) (headed 1000000 (headed 1000000 (headed 1000000 (choice 1000000 1 0)))) (S [])) gives 1000000  -- four counts of 1,000,000
@@ -87,6 +88,12 @@ big =
     ∷ body (T 1 (P 0) over (P 0)) refused 12 at 40  -- condition
     ∷ body (T 1 (P 0) (P 0) over) refused 12 at 48  -- overrun
     ∷ body (W 1 over) refused 12 at 28  -- timeout statement
+    ∷ body (A over (over ∷ S [] ∷ [])) refused 12 at 28  -- children in order: the condition before the branches
+    ∷ body (H 1 over over over over) refused 12 at 32  -- init first
+    ∷ body (H 1 (P 0) over over over) refused 12 at 40  -- then condition
+    ∷ body (H 1 (P 0) (P 0) over over) refused 12 at 48  -- then body
+    ∷ body (T 1 over over over) refused 12 at 32  -- of a tail loop: body first
+    ∷ body (T 1 (P 0) over over) refused 12 at 40  -- then condition
     ∷ body (H 0 (P 1) (P 1) over (P 1)) refused 12 at 48  -- a body that does not run is a record too
     ∷ body (H 0 (P 1) (P 1) top (P 1)) gives 3  -- at the limit it is good, and does not run
     ∷ body (T* 1 (A (P 0) (S (M 0 1 ∷ top ∷ []) ∷ P 5 ∷ [])) (P 0) (S [])) refused 12 at 48  -- so is a marked branch that is never passed

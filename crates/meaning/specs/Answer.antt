@@ -121,7 +121,7 @@ routinePlace s n = pastRecord 0 (sheetRecord s) + length (routinesBytes (take n 
 abbrev pub emptyPart : List ℕ → Part
 emptyPart s = record { start = length s; stop = length s }
 
--- "Asked for a routine of an accepted sheet"; "a number outside 1 to the count"
+-- "Asked for a routine of an accepted sheet"; "A number outside 1 to the count"
 abbrev pub partIn : List ℕ → Verdict Sheet → ℕ → Part
 partIn s (accepted t) zero = emptyPart s
 partIn s (accepted t) (suc n) = pick (ltb n (length (t .routines))) (record { start = routinePlace t n; stop = routinePlace t (suc n) }) (emptyPart s)

@@ -7,7 +7,7 @@ use lib.ListN.{length}
 use Rattle.meaning.specs.Tree.{Loop, Marker, Construct, Constructs, Routine, Sheet, numbered, mark, seenOutside}
 use Rattle.meaning.specs.Tree.{primitive, sequence, alternative, headLoop, tailLoop, timedLoop, call, marker, end, _then_}
 
--- A marked branch: its marker's limit, and "the excess of a marked branch".
+-- A marked branch: its marker's limit, and "The excess of a marked branch".
 pub record Marked : Type 0 where
   pub limit : ℕ
   pub excess : ℕ

@@ -5,8 +5,8 @@ use mathlib.Core.Logic.{_⊎_, inl, inr, _↔_}
 use mathlib.Core.Bool.{true, false}
 use mathlib.Core.List.{[], _∷_}
 use native.Mathlib.Omega.{arith}
-use native.Mathlib.Nat.{le-refl, le-suc}
-use Rattle.meaning.specs.Tree.{Loop, Primitive, Construct, Constructs, Sheet, primitive, alternative, end, _then_}
+use native.Mathlib.Nat.{le-refl, le-suc, mul-le-mul-left}
+use Rattle.meaning.specs.Tree.{Loop, Primitive, Construct, Sheet, primitive, alternative, headLoop, end, _then_}
 use Rattle.meaning.specs.Format.{rangesOf, inRanges}
 use Rattle.meaning.specs.Legal.{LegalSheet}
 use Rattle.meaning.specs.Value.{pays, total, times, value, bound, bounds}
@@ -206,30 +206,60 @@ pub l-not-single : SingleSheet (task l) → ⊥
 unfolding limits
 l-not-single h = let two = h .0 .4 in omega arith
 
--- Case l: its bound is 130, and no run takes more than 70, since a round runs one branch. So the second half needs its premise.
-abbrev branches-l : Constructs
-branches-l = S (M 10 0 ∷ P 7 ∷ []) then S (M 10 0 ∷ P 6 ∷ []) then S [] then end
+-- A head loop whose body takes at most m cycles takes at most m in each round, if nothing else costs.
+abbrev Most : Construct → ℕ → Type 0
+Most c m = (n : ℕ) (t : Tally) → Run begin c n t → n ≤ m
 
-abbrev loop-l : Loop
-loop-l = record { count = 10; scope = true }
+again-most : {l : Loop} {b : Construct} {m k n : ℕ} {t : Tally} → Most b m → Again begin l b (P 0) k n t → n ≤ m * k
+again-most h (stop e) = omega arith
+again-most h (again r c a e e') = let x = h _ _ r in let y = test-only c in let z = again-most h a in omega arith
 
-marked-only : {cost n : ℕ} {t : Tally} → Run begin (S (M 10 0 ∷ P cost ∷ [])) n t → n ≡ cost
-marked-only (children (next (pass e) (next r done e1 e2) e3 e4)) = let x = cost-only r in omega arith
-
-branch-most : {n : ℕ} {t u : Tally} → Taken begin branches-l n t u → n ≤ 7
-branch-most (this r e e') = let x = marked-only r in omega arith
-branch-most (other (this r e e') f f') = let x = marked-only r in omega arith
-branch-most (other (other (this (children done) e e') f f') g g') = omega arith
-
-rounds-most : {k n : ℕ} {t : Tally} → Again begin loop-l (alternative (P 0) branches-l) (P 0) k n t → n ≤ 7 * k
-rounds-most (stop e) = omega arith
-rounds-most (again (choose r s f f') c a e e') =
-    let w = cost-only r in let x = branch-most s in let y = test-only c in let z = rounds-most a in
+loop-most : (l : Loop) (b o : Construct) (m : ℕ) → Most b m → Most o 0 → Most (headLoop l (P 0) (P 0) b o) (m * l .count)
+loop-most l b o m h h' n t (head i c (without low high a entry) e) =
+    let x = cost-only i in
+    let y = test-only c in
+    let z = again-most h a in
+    let w = mul-le-mul-left m high in
+    omega arith
+loop-most l b o m h h' n t (head i c (overrun low a entry r e') e) =
+    let x = cost-only i in
+    let y = test-only c in
+    let z = again-most h a in
+    let w = h' _ _ r in
     omega arith
 
-loop-most : {n : ℕ} {t : Tally} → Rounds begin loop-l (alternative (P 0) branches-l) (P 0) (S []) 0 n t → n ≤ 70
-loop-most (without h h' a e) = let x = rounds-most a in omega arith
-loop-most (overrun h a e (children done) e') = let x = rounds-most a in omega arith
+marked-only : {limit cost n : ℕ} {t : Tally} → Run begin (S (M limit 0 ∷ P cost ∷ [])) n t → n ≡ cost
+marked-only (children (next (pass e) (next r done e1 e2) e3 e4)) = let x = cost-only r in omega arith
 
+-- Case l: its bound is 130, and no run takes more than 70, since a round runs one branch. So a scope has one marker at most in the premise.
 pub case-l : (n : ℕ) → Run begin l n [] → n ≤ 70
-case-l n (head r s z e) = let x = cost-only r in let y = test-only s in let w = loop-most z in omega arith
+case-l n = loop-most (record { count = 10; scope = true }) _ (S []) 7 round idle n []
+  where
+    branch : {m : ℕ} {t u : Tally} → Taken begin (S (M 10 0 ∷ P 7 ∷ []) then S (M 10 0 ∷ P 6 ∷ []) then S [] then end) m t u → m ≤ 7
+    branch (this r e e') = let x = marked-only r in omega arith
+    branch (other (this r e e') f f') = let x = marked-only r in omega arith
+    branch (other (other (this (children done) e e') f f') g g') = omega arith
+
+    round : Most (alternative (P 0) (S (M 10 0 ∷ P 7 ∷ []) then S (M 10 0 ∷ P 6 ∷ []) then S [] then end)) 7
+    round m t (choose r s e e') = let x = cost-only r in let y = branch s in omega arith
+
+    idle : Most (S []) 0
+    idle m t (children done) = omega arith
+
+-- A marked alternative inside another: its bound is 16 (meaning/Values), and no run takes more than 10. So the premise excludes that too.
+abbrev inner : Construct
+inner = A (P 0) (S (M 2 0 ∷ P 5 ∷ []) ∷ P 0 ∷ [])
+
+pub nested : (n : ℕ) → Run begin (H* 2 (P 0) (P 0) (A (P 0) (inner ∷ P 3 ∷ [])) (P 0)) n [] → n ≤ 10
+nested n = loop-most (record { count = 2; scope = true }) _ (P 0) 5 round idle n []
+  where
+    within : Most inner 5
+    within m t (choose r (this s e1 e2) e e') = let x = cost-only r in let y = marked-only s in omega arith
+    within m t (choose r (other (this s e1 e2) f f') e e') = let x = cost-only r in let y = cost-only s in omega arith
+
+    round : Most (A (P 0) (inner ∷ P 3 ∷ [])) 5
+    round m t (choose r (this s e1 e2) e e') = let x = cost-only r in let y = within _ _ s in omega arith
+    round m t (choose r (other (this s e1 e2) f f') e e') = let x = cost-only r in let y = cost-only s in omega arith
+
+    idle : Most (P 0) 0
+    idle m t r = let x = cost-only r in omega arith
