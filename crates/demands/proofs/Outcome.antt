@@ -13,7 +13,8 @@ use Rattle.meaning.specs.Tree.{Sheet}
 use Rattle.meaning.specs.Format.{pick}
 use Rattle.meaning.specs.Value.{taskBound}
 use Rattle.meaning.specs.Judgement.{Reading, found, sheetAt}
-use Rattle.meaning.specs.Answer.{valueLimit, Ended, endedOf, tooBig, Verdict, accepted, refused, sized, judgement, outcome, told, noRoom, answer, boundIn, stored, tableAfter}
+use Rattle.meaning.specs.Answer.{valueLimit, Ended, endedOf, tooBig, Verdict, accepted, refused, sized, judgement, outcome}
+use Rattle.meaning.specs.Answer.{told, noRoom, answer, boundIn, stored, tableAfter}
 use Rattle.demands.proofs.Found.{OfRecords, Found, not-read, was-read}
 use Rattle.demands.proofs.Sheets.{good-sheet}
 

@@ -38,8 +38,8 @@ found-placed (construct own left r last) x at past k =
 pub judged-good : (s : List ℕ) (owed : Owed) (at : ℕ) → Found (Judged s owed at) (judged s owed at)
 unfolding judged
 judged-good s owed at =
-    let left = drop at s in
-    let ranges = rangesOf (two (drop 2 left)) (rowsOf owed) in
+    let rest = drop at s in
+    let ranges = rangesOf (two (drop 2 rest)) (rowsOf owed) in
     found-unless _ 3 at (omega arith) (λ _.
     found-unless _ 4 at (omega arith) (λ h4.
     found-unless _ 5 at (omega arith) (λ h5.
@@ -49,7 +49,7 @@ judged-good s owed at =
       kind = not-false _ h4;
       range = not-false _ h6;
       place = h;
-      span = span-record s ranges at (eqb-true (two left) (lengthOf (length ranges)) (not-false _ h5)) (ltb-false _ _ h3);
+      span = span-record s ranges at (eqb-true (two rest) (lengthOf (length ranges)) (not-false _ h5)) (ltb-false _ _ h3);
     }))))))
 
 -- What holds of each row's records holds of a record that is listed and in range.
