@@ -10,7 +10,7 @@ use borrow.Author.Tests.{leb-false, eqb-false, not-false}
 use native.Mathlib.Omega.{arith}
 use Rattle.meaning.specs.Tree.{Marker, Loop, Construct, Constructs, itself, leading, mark}
 use Rattle.meaning.specs.Tree.{primitive, sequence, alternative, headLoop, tailLoop, timedLoop, call, marker, end, _then_}
-use Rattle.meaning.specs.Format.{pick, constructRows, Record, InRange, flag, howMany, recordOf, recordBytes, bytes, bytesIn}
+use Rattle.meaning.specs.Format.{pick, constructRows, Record, InRange, of, flag, howMany, recordOf, recordBytes, bytes, bytesIn}
 use Rattle.meaning.specs.Legal.{Reach, nowhere, firstChild, laterChild, asBranch, asBody, Plain, Fit, Legal, Legals}
 use Rattle.meaning.specs.Judgement.{construct, ConstructReader, list, isMarked, branches}
 use Rattle.meaning.specs.Judgement.{sequenceAt, alternativeAt, headLoopAt, tailLoopAt, timedLoopAt, owned, constructAt}
@@ -112,12 +112,12 @@ module _ (s : List ℕ) (before own : ℕ) (number : own ≡ before + 1) where
           was-read {a = c} (record { legal = h .fit; plain = λ _. (refl, refl); span = h .span })
       good-owned (a-sequence n) j =
           found-then (good-list (suc depth) read g (firstChild r) last (laterChild r) n next) (λ cs past y.
-          let h = headed j (sequence cs) (ap (λ z. record { kind = 3; fields = z ∷ [] }) (y .0 .many)) in
+          let h = headed j (sequence cs) (ap (λ z. of 3 (z ∷ [])) (y .0 .many)) in
           was-read {a = sequence cs} (record { legal = (h .fit, y .0 .legal); plain = λ q. (refl, y .1 q); span = span-then (h .span) (y .0 .span) }))
       good-owned (an-alternative n k) j =
           found-then (g nowhere false next) (λ c d x.
           found-then (good-branches (suc depth) read g r true n d) (λ bs past y.
-          let h = headed j (alternative c bs) (ap (λ z. record { kind = 4; fields = z ∷ [] }) (y .0 .many)) in
+          let h = headed j (alternative c bs) (ap (λ z. of 4 (z ∷ [])) (y .0 .many)) in
           was-read {a = alternative c bs} (record {
             legal = (h .fit, x .legal, y .0 .legal, y .1 refl (omega arith));
             plain = λ _. (refl, refl);
@@ -129,7 +129,7 @@ module _ (s : List ℕ) (before own : ℕ) (number : own ≡ before + 1) where
           found-then (g (asBody (eqb b 1) r) false d2) (λ t d3 x3.
           found-then (g nowhere false d3) (λ o past x4.
           let l : Loop = record { count = n; scope = eqb b 1 } in
-          let h = headed j (headLoop l i c t o) (ap (λ z. record { kind = 5; fields = n ∷ z ∷ [] }) (flag-of b k)) in
+          let h = headed j (headLoop l i c t o) (ap (λ z. of 5 (n ∷ z ∷ [])) (flag-of b k)) in
           was-read {a = headLoop l i c t o} (record {
             legal = (h .fit, x1 .legal, x2 .legal, x3 .legal, x4 .legal);
             plain = λ _. (refl, refl);
@@ -140,7 +140,7 @@ module _ (s : List ℕ) (before own : ℕ) (number : own ≡ before + 1) where
           found-then (g nowhere false d1) (λ c d2 x2.
           found-then (g nowhere false d2) (λ o past x3.
           let l : Loop = record { count = n; scope = eqb b 1 } in
-          let h = headed j (tailLoop l t c o) (ap (λ z. record { kind = 6; fields = n ∷ z ∷ [] }) (flag-of b k)) in
+          let h = headed j (tailLoop l t c o) (ap (λ z. of 6 (n ∷ z ∷ [])) (flag-of b k)) in
           was-read {a = tailLoop l t c o} (record {
             legal = (h .fit, x1 .legal, x2 .legal, x3 .legal);
             plain = λ _. (refl, refl);

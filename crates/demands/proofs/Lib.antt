@@ -5,6 +5,7 @@ pub mod Good
 pub mod Sheets
 pub mod Here
 pub mod Back
+pub mod Limit
 pub mod Outcome
 pub mod Written
 pub mod RoundTrip

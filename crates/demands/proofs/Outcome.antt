@@ -3,8 +3,8 @@ use Prim.Native.Nat.{ℕ, _≤_, _<_}
 use mathlib.Core.Path.{_≡_, refl, sym, ap, subst}
 use mathlib.Core.Logic.{_↔_}
 use mathlib.Core.Bool.{Bool, true, false}
-use mathlib.Core.List.{List, [], _∷_}
-use mathlib.Core.Option.{Option, some, none}
+use mathlib.Core.List.{List}
+use mathlib.Core.Option.{Option}
 use lib.ListN.{length}
 use lib.Dec.{ltb}
 use borrow.Author.Tests.{ltb-true, ltb-false, le-ltb, lt-ltb}
@@ -13,29 +13,30 @@ use Rattle.meaning.specs.Tree.{Sheet}
 use Rattle.meaning.specs.Format.{pick}
 use Rattle.meaning.specs.Value.{taskBound}
 use Rattle.meaning.specs.Judgement.{Reading, found, sheetAt}
-use Rattle.meaning.specs.Answer.{valueLimit, Ended, endedOf, tooBig, Verdict, accepted, refused, sized, judgement, outcome}
+use Rattle.meaning.specs.Answer.{endedOf, Verdict, accepted, refused, sized, judgement, outcome}
 use Rattle.meaning.specs.Answer.{told, noRoom, answer, boundIn, stored, tableAfter}
 use Rattle.demands.proofs.Found.{OfRecords, Found, not-read, was-read}
 use Rattle.demands.proofs.Sheets.{good-sheet}
+use Rattle.demands.proofs.Limit.{SmallSheet, FirstOver, Sought, nowhere, at-place, sought, first-found, none-found, sheet-listed}
 
--- what becomes of the bytes s
+-- What becomes of the bytes s: TOO BIG exactly if some construct's or routine's own value is over the limit, and no other fault was found.
 pub data Decided (s : List ℕ) : Verdict Sheet → Type 0 where
   too-long : 60000 < length s → Decided s (refused 2 0)
   bad-record : {number place : ℕ} → length s ≤ 60000 → sheetAt s 0 ≡ Reading.refused number place → OfRecords number → Decided s (refused number place)
-  too-big : {t : Sheet} {past place : ℕ} → length s ≤ 60000 → sheetAt s 0 ≡ found t past → tooBig (endedOf t) ≡ some place → Decided s (refused 12 place)
-  good : {t : Sheet} {past : ℕ} → length s ≤ 60000 → sheetAt s 0 ≡ found t past → tooBig (endedOf t) ≡ none → Decided s (accepted t)
+  too-big : {t : Sheet} {past place : ℕ} → length s ≤ 60000 → sheetAt s 0 ≡ found t past → FirstOver place (endedOf t) → Decided s (refused 12 place)
+  good : {t : Sheet} {past : ℕ} → length s ≤ 60000 → sheetAt s 0 ≡ found t past → SmallSheet t → Decided s (accepted t)
 
 pub decided : (s : List ℕ) → Decided s (outcome s)
 unfolding outcome
 decided s = by-length (ltb 60000 (length s)) refl
   where
-    by-values : {t : Sheet} {past : ℕ} → length s ≤ 60000 → sheetAt s 0 ≡ found t past → (place : Option ℕ) → tooBig (endedOf t) ≡ place → Decided s (sized t place)
-    by-values h e none b = good h e b
-    by-values h e (some place) b = too-big h e b
+    by-values : {t : Sheet} {past : ℕ} {place : Option ℕ} → length s ≤ 60000 → sheetAt s 0 ≡ found t past → Sought (endedOf t) place → Decided s (sized t place)
+    by-values {t} h e (nowhere n) = good h e (sheet-listed t .0 n)
+    by-values h e (at-place f) = too-big h e f
 
     by-reading : {P : Sheet → ℕ → Type 0} → length s ≤ 60000 → (g : Reading Sheet) → sheetAt s 0 ≡ g → Found P g → Decided s (judgement g)
     by-reading h (Reading.refused number place) e (not-read n) = bad-record h e n
-    by-reading h (found t past) e (was-read p) = by-values h e (tooBig (endedOf t)) refl
+    by-reading h (found t past) e (was-read p) = by-values h e (sought (endedOf t))
 
     by-length : (t : Bool) → ltb 60000 (length s) ≡ t → Decided s (pick t (refused 2 0) (judgement (sheetAt s 0)))
     by-length true e = too-long (ltb-true 60000 (length s) e)
@@ -80,45 +81,26 @@ not-accepted e = absurd (subst isAccepted (sym e) tt)
 pub accepted-same : {A : Type 0} {a b : A} → accepted a ≡ accepted b → a ≡ b
 accepted-same {a = a} e = ap (theAccepted a) e
 
--- no record has a value over the limit
-abbrev pub Small : List Ended → Type 0
-Small [] = Unit {0}
-Small (e ∷ es) = (e .value ≤ valueLimit) × Small es
-
-small-by : (t : Bool) (v place : ℕ) (rest : Option ℕ) → ltb valueLimit v ≡ t → pick t (some place) rest ≡ none → (v ≤ valueLimit) × (rest ≡ none)
-small-by true v place rest e h = let z : _≡_ {A = ℕ} 0 1 = cc in absurd (omega arith)
-small-by false v place rest e h = (ltb-false valueLimit v e, h)
-
-none-small : (es : List Ended) → tooBig es ≡ none → Small es
-unfolding tooBig
-none-small [] h = tt
-none-small (e ∷ es) h = let (x, y) = small-by (ltb valueLimit (e .value)) (e .value) (e .place) (tooBig es) refl h in (x, none-small es y)
-
-small-none : (es : List Ended) → Small es → tooBig es ≡ none
-unfolding tooBig
-small-none [] h = refl
-small-none (e ∷ es) h = rw (le-ltb valueLimit (e .value) (h .0)) (small-none es (h .1))
-
 -- that the list is exact: what is decided is the outcome
 pub outcome-is : (s : List ℕ) {v : Verdict Sheet} → Decided s v → outcome s ≡ v
 unfolding outcome
 outcome-is s (too-long l) = rw (lt-ltb 60000 (length s) l)
 outcome-is s (bad-record l e n) = rw (le-ltb 60000 (length s) l, e)
-outcome-is s (too-big l e b) = rw (le-ltb 60000 (length s) l, e, b)
-outcome-is s (good l e b) = rw (le-ltb 60000 (length s) l, e, b)
+outcome-is s (too-big l e f) = rw (le-ltb 60000 (length s) l, e, first-found f)
+outcome-is s (good {t = t} l e h) = rw (le-ltb 60000 (length s) l, e, none-found (sheet-listed t .1 h))
 
 -- accepted is: not too long, read, and no value over the limit
 pub record Accepted (s : List ℕ) (t : Sheet) : Type 0 where
   pub short : length s ≤ 60000
   pub past : ℕ
   pub read : sheetAt s 0 ≡ found t past
-  pub small : Small (endedOf t)
+  pub small : SmallSheet t
 
 pub accepted-is : (s : List ℕ) (t : Sheet) → (outcome s ≡ accepted t) ↔ Accepted s t
-accepted-is s t = (λ e. to (outcome s) (decided s) e, λ a. outcome-is s (good (a .short) (a .read) (small-none (endedOf t) (a .small))))
+accepted-is s t = (λ e. to (outcome s) (decided s) e, λ a. outcome-is s (good (a .short) (a .read) (a .small)))
   where
     to : (v : Verdict Sheet) → Decided s v → v ≡ accepted t → Accepted s t
     to v (too-long l) e = not-accepted e
     to v (bad-record l q n) e = not-accepted e
     to v (too-big l q b) e = not-accepted e
-    to v (good {t = u} {past = past} l q b) e = subst (Accepted s) (accepted-same e) (record { short = l; past = past; read = q; small = none-small (endedOf u) b })
+    to v (good {t = u} {past = past} l q b) e = subst (Accepted s) (accepted-same e) (record { short = l; past = past; read = q; small = b })

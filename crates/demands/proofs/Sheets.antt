@@ -8,7 +8,7 @@ use lib.Dec.{ltb}
 use borrow.Author.Tests.{ltb-false}
 use native.Mathlib.Omega.{arith}
 use Rattle.meaning.specs.Tree.{Routine, Sheet}
-use Rattle.meaning.specs.Format.{sheetRows, routineRows, field, InRange, routineRecord, sheetRecord, recordBytes, routineBytes, routinesBytes, bytesOf}
+use Rattle.meaning.specs.Format.{sheetRows, routineRows, field, InRange, of, routineRecord, sheetRecord, recordBytes, routineBytes, routinesBytes, bytesOf}
 use Rattle.meaning.specs.Legal.{nowhere, Legal, LegalRoutines, LegalSheet}
 use Rattle.meaning.specs.Judgement.{sheet, routine, routineAt, routinesAt, sheetAt}
 use Rattle.demands.proofs.Found.{Found, was-read, found-then, found-unless}
@@ -58,7 +58,7 @@ module _ (s : List ℕ) where
       found-then (good-routines (field x 1) 0 1 refl next) (λ rs past y.
       found-unless (ltb past (length s)) 11 past (omega arith) (λ whole.
       let t : Sheet = record { edition = field x 0; routines = rs } in
-      let e : sheetRecord t ≡ x = ap (λ z. record { kind = 100; fields = field x 0 ∷ z ∷ [] }) (y .many) ∙ sheet-is x (j .kind) (j .range) in
+      let e : sheetRecord t ≡ x = ap (λ z. of 100 (field x 0 ∷ z ∷ [])) (y .many) ∙ sheet-is x (j .kind) (j .range) in
       let span = span-then (subst (λ z. Span s 0 next (recordBytes z)) (sym e) (j .span)) (y .span) in
       was-read {a = t} (record {
         legal = (subst (InRange sheetRows) (sym e) (j .range), y .legal);

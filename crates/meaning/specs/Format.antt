@@ -82,7 +82,7 @@ field r i = getD (r .fields) i 0
 abbrev pub InRange : List Row → Record → Type 0  -- no "field outside its range"
 InRange rows r = inRanges (rangesOf (r .kind) rows) (r .fields) ≡ true
 
-abbrev pub of : ℕ → List ℕ → Record
+abbrev pub of : ℕ → List ℕ → Record  -- a record of this kind
 of kind fields = record { kind = kind; fields = fields }
 
 abbrev pub flag : Bool → ℕ  -- "scope 0 or 1"
