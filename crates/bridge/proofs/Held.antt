@@ -1,0 +1,115 @@
+-- What the code holds after any number of routines is what document 01 says of the sheet of these routines.
+use Prim.Native.Nat.{ℕ, zero, suc, _+_, _-_, _<_}
+use mathlib.Core.Path.{_≡_, refl, sym, ap, ap₂, subst, _∙_}
+use mathlib.Core.Bool.{Bool, true, false}
+use mathlib.Core.List.{List, [], _∷_, _++_}
+use mathlib.Core.Option.{Option, some, none}
+use lib.ListN.{length, take, set, length-set}
+use lib.Seq.{length-take-le, take-suc-set, getD-take}
+use lib.Dec.{eqb}
+use borrow.Author.Tests.{le-ltb}
+use native.Mathlib.Omega.{arith}
+use native.Mathlib.Numerals.{add-one}
+use Rattle.meaning.specs.Tree.{Routine}
+use Rattle.meaning.specs.Format.{pick, routinesBytes}
+use Rattle.meaning.specs.Value.{Known, bound, bounds, nothing, boundsOf, taskBound}
+use Rattle.meaning.specs.Answer.{endedRoutines, endedOf, tooBig, accepted, partIn}
+use Rattle.records.specs.declared.Cursor.{Cursor}
+use Rattle.reader.specs.declared.Bounds.{Bounds}
+use Rattle.reader.specs.declared.Run.{Run}
+use Rattle.reader.specs.Reader.{noBounds, boundsWith, runFrom, runWith}
+use Rattle.bridge.proofs.Agree.{Over, Finds}
+use Rattle.bridge.proofs.Routines.{firstOf, over-none, over-some, endedRoutine, Fits}
+use Rattle.bridge.proofs.More.{placeAfter, sheetWith, more, length-more, place-more, bounds-more, too-big-more, task-more, part-more}
+
+-- neither of two is there
+first-none : (i j : Option ℕ) → firstOf i j ≡ none → (i ≡ none) × (j ≡ none)
+first-none none j e = (refl, e)
+first-none (some place) j e = (cc, cc)
+
+-- the bounds read so far, as what calls know
+abbrev pub knownTo : Bounds → Known
+knownTo b = record { bounds = take (b .count) (b .values) }
+
+pub finds : (b : Bounds) → Finds (knownTo b) (b .values) (b .count)
+finds b zero low high = absurd (omega arith)
+finds b (suc i) low high = let e : suc i - 1 ≡ i = omega arith in rw e (sym (getD-take (b .count) (b .values) i 0 high))
+
+module _ (s : List ℕ) (number edition : ℕ) where
+  -- the first record of these routines to end with too large a value, if there is one
+  abbrev bigIn : List Routine → Option ℕ
+  bigIn rs = tooBig (endedOf (sheetWith edition rs))
+
+  -- What the code holds after these routines. Values count only while no record was too big.
+  pub record Holds (rs : List Routine) (b : Bounds) (run : Run) : Type 0 where
+    pub place : run .at .at ≡ placeAfter rs
+    pub many : b .count ≡ length rs
+    pub room : length (b .values) ≡ 64
+    pub over : Over (bigIn rs) (run .over)
+    pub values : bigIn rs ≡ none → take (b .count) (b .values) ≡ boundsOf (sheetWith edition rs)
+    pub last : bigIn rs ≡ none → run .last ≡ taskBound (sheetWith edition rs)
+    pub part : partIn s (accepted (sheetWith edition rs)) number ≡ record { start = run .start; stop = run .end }
+
+  pub holds-none : (c : Cursor) → c .at ≡ 12 → Holds [] noBounds (runFrom (length s) c)
+  unfolding noBounds runFrom routinesBytes endedRoutines tooBig bounds
+  holds-none c e = record { place = e; many = refl; room = refl; over = refl; values = λ _. refl; last = λ _. refl; part = none-asked number }
+    where
+      none-asked : (k : ℕ) → partIn s (accepted (sheetWith edition [])) k ≡ record { start = length s; stop = length s }
+      none-asked zero = refl
+      none-asked (suc i) = rw (le-ltb i 0 (omega arith))
+
+  module _ {rs : List Routine} {b : Bounds} {run : Run} (d : Holds rs b run) (space : b .count < 64)
+      {r : Routine} {past v o : ℕ} {next : Cursor} (f : Fits (knownTo b) (run .at .at) r past v o next) where
+    abbrev known : Known
+    known = bounds nothing rs
+
+    -- while no record was too big, the code's bounds are the sheet's
+    fits : bigIn rs ≡ none → Fits known (placeAfter rs) r past v o next
+    fits h =
+        let same : knownTo b ≡ known = ap (λ z. record { bounds = z }) (d .values h) in
+        subst (λ z. Fits z (placeAfter rs) r past v o next) same (subst (λ z. Fits (knownTo b) z r past v o next) (d .place) f)
+
+    pub holds-more : Holds (more r rs) (boundsWith b v) (runWith run (b .count + 1) number v o next)
+    unfolding boundsWith runWith
+    holds-more = record {
+      place = place;
+      many = (let n = length-more r rs in let k = d .many in omega arith);
+      room = length-set (b .values) (b .count) v ∙ d .room;
+      over = over (bigIn rs) refl (d .over);
+      values = values;
+      last = last;
+      part = rw (ap (λ n. eqb (n + 1) number) (d .many)) (part-more r s edition rs number ∙ part (eqb (length rs + 1) number));
+    }
+      where
+        place : next .at ≡ placeAfter (more r rs)
+        place = let n = place-more r rs in let a = f .reached in let b = f .long in let c = d .place in omega arith
+
+        big : bigIn (more r rs) ≡ firstOf (bigIn rs) (tooBig (endedRoutine known (placeAfter rs) r))
+        big = too-big-more r rs nothing 12
+
+        over : (i : Option ℕ) → bigIn rs ≡ i → Over i (run .over) →
+            Over (bigIn (more r rs)) (pick (eqb (run .over) 0) o (run .over))
+        over none p x = rw (over-none x, big, p) (fits p .over)
+        over (some first) p x = rw (over-some x, big, p) x
+
+        -- no record is too big, so none was before
+        before : bigIn (more r rs) ≡ none → (bigIn rs ≡ none) × (v ≡ bound known r)
+        before h = let (a, b) = first-none _ _ (sym big ∙ h) in (a, fits a .amount b)
+
+        values : bigIn (more r rs) ≡ none → take (b .count + 1) (set (b .values) (b .count) v) ≡ boundsOf (sheetWith edition (more r rs))
+        values h =
+            let (a, e) = before h in
+            let room = d .room in
+            rw add-one (take-suc-set (b .values) (b .count) v (omega arith) ∙ ap₂ (λ xs w. xs ++ (w ∷ [])) (d .values a) e
+            ∙ sym (ap (λ z. z .bounds) (bounds-more r rs nothing)))
+
+        last : bigIn (more r rs) ≡ none → v ≡ taskBound (sheetWith edition (more r rs))
+        last h =
+            let (a, e) = before h in
+            let room = d .room in
+            e ∙ sym (task-more r edition rs (ap length (sym (d .values a)) ∙ length-take-le (b .count) (b .values) (omega arith) ∙ d .many))
+
+        part : (t : Bool) → pick t (record { start = placeAfter rs; stop = placeAfter (more r rs) }) (partIn s (accepted (sheetWith edition rs)) number) ≡
+            record { start = pick t (run .at .at) (run .start); stop = pick t (next .at) (run .end) }
+        part true = ap₂ (λ a b. record { start = a; stop = b }) (sym (d .place)) (sym place)
+        part false = d .part

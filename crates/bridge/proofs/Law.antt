@@ -1,0 +1,37 @@
+-- What reading a sheet comes to in the code's shape is what document 01 says of its bytes.
+use Prim.Native.Nat.{ℕ}
+use mathlib.Core.Path.{_≡_}
+use mathlib.Core.Bool.{Bool, true, false}
+use mathlib.Core.List.{List}
+use lib.ListN.{length}
+use lib.Dec.{ltb}
+use Rattle.meaning.specs.Format.{pick}
+use Rattle.meaning.specs.Judgement.{sheetAt}
+use Rattle.meaning.specs.Answer.{refused, judgement, outcome, told, stored, partOf}
+use Rattle.reader.specs.declared.Answer.the-variants.{Accepted}
+use Rattle.reader.specs.declared.Report.{Report}
+use Rattle.reader.specs.Reader.{noBounds, refusal, sheetOf, readOf}
+use Rattle.reader.specs.Said.{saidOf, storedOf, partSaid}
+use Rattle.bridge.proofs.Agree.{ConstructLaw}
+use Rattle.bridge.proofs.Sheets.{Reports, refusal-law, sheet-law}
+
+-- the answer; on acceptance the bounds, as a table is to hold them; the part of the routine that was asked for
+pub record Reported (s : List ℕ) (number : ℕ) (r : Report) : Type 0 where
+  pub said : saidOf (r .answer) ≡ told (outcome s)
+  pub kept : (b : ℕ) → r .answer ≡ Accepted b → (table : List ℕ) → storedOf (r .bounds) table ≡ stored (outcome s) table
+  pub part : partSaid r ≡ partOf s number
+
+abbrev pub ReadLaw : Type 0
+ReadLaw = (s : List ℕ) (number : ℕ) → Reported s number (readOf s number)
+
+-- TOO LONG comes first
+pub read-law : ConstructLaw → ReadLaw
+unfolding readOf outcome partOf
+read-law construct-law s number = record { said = reports .said; kept = reports .kept; part = reports .part }
+  where
+    by-length : (t : Bool) → Reports s number (pick t (refusal (length s) 2 0 noBounds) (sheetOf s number)) (pick t (refused 2 0) (judgement (sheetAt s 0)))
+    by-length true = refusal-law s number 2 0 noBounds
+    by-length false = sheet-law construct-law s number
+
+    reports : Reports s number (readOf s number) (outcome s)
+    reports = by-length (ltb 60000 (length s))

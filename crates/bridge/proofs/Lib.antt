@@ -1,0 +1,16 @@
+pub mod Agree
+pub mod Standings
+pub mod Ends
+pub mod Charges
+pub mod Children
+pub mod Marks
+pub mod Readers
+pub mod Sequences
+pub mod Alternatives
+pub mod Loops
+pub mod Constructs
+pub mod More
+pub mod Routines
+pub mod Held
+pub mod Sheets
+pub mod Law

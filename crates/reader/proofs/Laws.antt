@@ -1,0 +1,155 @@
+-- Laws of what the private functions on values come to: how far each sum can grow, and one child more.
+use Prim.Native.Nat.{ℕ, suc, _+_, _-_, _*_, _/_, _%_, _≤_, _<_, min, max}
+use mathlib.Core.Path.{_≡_, refl, sym, ap, _∙_}
+use mathlib.Core.Bool.{Bool, true, false}
+use mathlib.Core.List.{List, [], _∷_, _++_}
+use lib.Dec.{eqb}
+use lib.ListN.{length, take, drop, getD, set, drop-of-length-le, length-set, length-append, length-take}
+use lib.Seq.{take-suc-set, drop-cons}
+use borrow.Author.Tests.{eqb-true}
+use native.Mathlib.Omega.{arith}
+use native.Mathlib.Nat.{mul-le-mul}
+use native.Mathlib.Numerals.{add-one}
+use Rattle.meaning.specs.Format.{pick}
+use Rattle.reader.specs.declared.Tally.{Tally}
+use Rattle.reader.specs.Tallies.{valueCap, chargeOf, chargesOf, isLoop, counted, isBranch, withOf, keptOf, heaviest, heaviestSum, Counts, Held}
+
+-- products stay in 64 bits
+pub charge-small : {passes excess : ℕ} → passes ≤ 1000000 → excess ≤ 17592186044415 → passes * excess ≤ 17592186044415000000
+charge-small p q = mul-le-mul p q
+
+pub product-small : {product count : ℕ} → product ≤ 1000000 → count ≤ 1000000 → product * count ≤ 1000000000000
+product-small p q = mul-le-mul p q
+
+pub rounds-small : {v count : ℕ} → v ≤ 1099511627775 → count ≤ 1000000 → v * count ≤ 1099511627775000000
+rounds-small p q = mul-le-mul p q
+
+-- a branch that is worth no more than the plain ones has no excess
+pub charge-none : (product limit value plain : ℕ) → value ≤ plain → 0 ≡ chargeOf product limit value plain
+charge-none product limit value plain h = let z : value - plain ≡ 0 = omega arith in rw z (omega arith)
+
+-- the marked branches from one on
+pub charges-more : (product plain sum i : ℕ) (marks : List ℕ) → i < length marks →
+    chargesOf product plain sum (drop i marks)
+    ≡ chargesOf product plain (min valueCap (sum + chargeOf product (getD marks i 0 % 1048576) (getD marks i 0 / 1048576) plain)) (drop (i + 1) marks)
+unfolding chargesOf
+charges-more product plain sum i marks h = rw (add-one i, drop-cons marks i 0 h)
+
+pub charges-end : (product plain sum i : ℕ) (marks : List ℕ) → length marks ≤ i → chargesOf product plain sum (drop i marks) ≡ sum
+unfolding chargesOf
+charges-end product plain sum i marks h = rw (drop-of-length-le marks h)
+
+-- what a child adds is at most the heaviest of its owner's
+pub child-small : (kind count i v : ℕ) → Counts kind count → v ≤ 1099511627775 → counted kind count i v ≤ heaviest kind
+unfolding counted
+child-small kind count i v h small = go (eqb kind 5) (eqb kind 6) (eqb i 1) (eqb i 2) (h .loop)
+  where
+    go : (five six one two : Bool) → (pick five true six ≡ true → count ≤ 1000000) →
+        pick five (pick one (v + v * count) (pick two (v * count) v)) (pick six (pick two v (v * count)) v) ≤ pick (pick five true six) 1099512727286627775 1099511627775
+    go true six true two k = let x = rounds-small small (k refl) in omega arith
+    go true six false true k = let x = rounds-small small (k refl) in omega arith
+    go true six false false k = omega arith
+    go false true one true k = omega arith
+    go false true one false k = let x = rounds-small small (k refl) in omega arith
+    go false false one two k = omega arith
+
+pub some-heavier : (kind : ℕ) → 1099511627775 ≤ heaviest kind
+some-heavier kind = go (isLoop kind)
+  where
+    go : (t : Bool) → 1099511627775 ≤ pick t 1099512727286627775 1099511627775
+    go true = omega arith
+    go false = omega arith
+
+-- n children add no more than the heaviest n
+pub fewer-small : (i n kind : ℕ) → i ≤ n → n * heaviest kind ≤ heaviestSum → i * heaviest kind ≤ heaviestSum
+fewer-small i n kind h k = let m : i * heaviest kind ≤ n * heaviest kind = mul-le-mul h (omega arith) in omega arith
+
+-- a branch more, and any other child more
+pub branch-more : (kind count i : ℕ) (t : Tally) (v o e m : ℕ) → isBranch kind i ≡ true →
+    withOf kind count i t v o e m ≡ record {
+      sum = t .sum;
+      top = pick (eqb m 0) (max (t .top) v) (t .top);
+      extra = min valueCap (t .extra + e);
+      mark = t .mark;
+      over = pick (eqb (t .over) 0) o (t .over);
+    }
+unfolding withOf
+branch-more kind count i t v o e m h = rw h (go (eqb m 0))
+  where
+    go : (x : Bool) → _≡_ {A = Tally} (record {
+      sum = t .sum;
+      top = pick x (max (t .top) v) (t .top);
+      extra = min valueCap (t .extra + e);
+      mark = pick x (t .mark) (t .mark);
+      over = pick (eqb (t .over) 0) o (t .over);
+    }) (record {
+      sum = t .sum;
+      top = pick x (max (t .top) v) (t .top);
+      extra = min valueCap (t .extra + e);
+      mark = t .mark;
+      over = pick (eqb (t .over) 0) o (t .over);
+    })
+    go true = refl
+    go false = refl
+
+pub child-more : (kind count i : ℕ) (t : Tally) (v o e m : ℕ) → isBranch kind i ≡ false →
+    withOf kind count i t v o e m ≡ record {
+      sum = t .sum + counted kind count i v;
+      top = t .top;
+      extra = min valueCap (t .extra + e);
+      mark = pick (eqb m 0) (t .mark) m;
+      over = pick (eqb (t .over) 0) o (t .over);
+    }
+unfolding withOf
+child-more kind count i t v o e m h = rw h
+
+next-heavier : (i h : ℕ) → (i + 1) * h ≡ i * h + h
+next-heavier i h = omega arith
+
+-- what is held after one child more
+pub held-more : {kind i : ℕ} {t u : Tally} → Held kind i t → u .sum ≤ t .sum + heaviest kind → u .top ≤ 1099511627775 → u .extra ≤ valueCap → u .mark ≤ 1000001 →
+    Held kind (i + 1) u
+held-more {kind} {i} h sum top extra mark = record { sum = (let n = next-heavier i (heaviest kind) in let s = h .sum in omega arith); top = top; extra = extra; mark = mark }
+
+pub sum-fits : (kind i : ℕ) {t : Tally} → Held kind i t → (i + 1) * heaviest kind ≤ heaviestSum → t .sum + heaviest kind ≤ heaviestSum
+sum-fits kind i h k = let n = next-heavier i (heaviest kind) in let s = h .sum in omega arith
+
+pub pick-most : {a b most : ℕ} (t : Bool) → a ≤ most → b ≤ most → pick t a b ≤ most
+pick-most true h k = h
+pick-most false h k = k
+
+-- of a child that is told plainly nothing is added but its value
+pub plain-extra : {extra : ℕ} → extra ≤ valueCap → min valueCap (extra + 0) ≡ extra
+plain-extra h = omega arith
+
+pub plain-over : (over : ℕ) → pick (eqb over 0) 0 over ≡ over
+plain-over over = go (eqb over 0) refl
+  where
+    go : (t : Bool) → eqb over 0 ≡ t → pick t 0 over ≡ over
+    go true e = sym (eqb-true over 0 e)
+    go false e = refl
+
+pub counted-both : (kind count i v : ℕ) {r : ℕ} → r ≡ counted kind count i v → Counts kind count → v ≤ 1099511627775 → (r ≡ counted kind count i v) × (r ≤ heaviest kind)
+counted-both kind count i v e h small = (e, rw e (child-small kind count i v h small))
+
+-- The list `marks` up to `held` after a child: as it was, or with one marked branch more.
+module _ (kind i value mark held : ℕ) (marks : List ℕ) where
+  abbrev pub Kept : ℕ → List ℕ → Type 0
+  Kept r after =
+      (r ≡ length (keptOf kind i value mark (take held marks))) × ((take r after ≡ keptOf kind i value mark (take held marks)) × (length after ≡ length marks))
+
+  pub kept-none : eqb mark 0 ≡ true → held ≤ length marks → Kept held marks
+  unfolding keptOf
+  kept-none e h = rw e (let n = length-take held marks in (omega arith, (refl, refl)))
+
+  pub kept-other : eqb mark 0 ≡ false → isBranch kind i ≡ false → held ≤ length marks → Kept held marks
+  unfolding keptOf
+  kept-other e b h = rw (e, b) (let n = length-take held marks in (omega arith, (refl, refl)))
+
+  pub kept-one : eqb mark 0 ≡ false → isBranch kind i ≡ true → held < length marks → Kept (held + 1) (set marks held (value * 1048576 + (mark - 1)))
+  unfolding keptOf
+  kept-one e b h =
+      let x = value * 1048576 + (mark - 1) in
+      let n = length-take held marks in
+      let m = length-append (take held marks) (x ∷ []) in
+      rw (e, b) (omega arith, (rw (add-one held) (take-suc-set marks held x h), length-set marks held x))

@@ -1,0 +1,4 @@
+pub mod Tallies
+pub mod Ways
+pub mod Reader
+pub mod Said

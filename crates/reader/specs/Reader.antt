@@ -1,0 +1,159 @@
+-- What the readers come to, in the code's shape: one pass over the bytes that builds no tree. The crate bridge ties them to document 01.
+use Prim.Native.Nat.{ℕ, zero, suc, _+_, _-_, _*_, _≤_}
+use mathlib.Core.Bool.{Bool, true, false}
+use mathlib.Core.List.{List, []}
+use lib.ListN.{length, getD, set, replicate}
+use lib.Dec.{ltb, eqb}
+use Rattle.meaning.specs.Format.{pick}
+use Rattle.meaning.specs.Judgement.{judged}
+use Rattle.records.specs.declared.Cursor.{Cursor}
+use Rattle.records.specs.declared.Read.{Read}
+use Rattle.records.specs.declared.Head.{Head}
+use Rattle.records.specs.declared.Head.the-variants as head
+use Rattle.records.specs.declared.Owed.{Owed}
+use Rattle.records.specs.declared.Owed.the-variants.{Sheet, Routine, Construct}
+use Rattle.records.specs.Records.{owedBy, headOf}
+use Rattle.reader.specs.declared.Part.{Part}
+use Rattle.reader.specs.declared.Parsed.{Parsed}
+use Rattle.reader.specs.declared.Parsed.the-variants.{Plain, Done, Refused}
+use Rattle.reader.specs.declared.Tally.{Tally}
+use Rattle.reader.specs.declared.Bounds.{Bounds}
+use Rattle.reader.specs.declared.Run.{Run}
+use Rattle.reader.specs.declared.Report.{Report}
+use Rattle.reader.specs.declared.Answer.{Answer}
+use Rattle.reader.specs.declared.Answer.the-variants as answer
+use Rattle.reader.specs.Tallies.{chargesOf, noTally, withOf, keptOf, part, closeOf, heaviest, heaviestSum, Counts}
+use Rattle.reader.specs.Ways.{waysOf, wayOf}
+
+-- the record at a cursor, judged
+abbrev pub recordOf : List ℕ → Owed → Cursor → Head
+recordOf s owed c = headOf (judged s (owedBy owed) (c .at))
+
+abbrev pub onHead : {A : Type 0} → Head → (ℕ → ℕ → A) → (Read → A) → A
+onHead (head.Refused number place) g f = g number place
+onHead (head.Good r) g f = f r
+
+-- value, over, extra, mark and next of what was read
+abbrev pub onParsed : {A : Type 0} → Parsed → (ℕ → ℕ → A) → (ℕ → ℕ → ℕ → ℕ → Cursor → A) → A
+onParsed (Plain v next) g f = f v 0 0 0 next
+onParsed (Done p) g f = f (p .value) (p .over) (p .extra) (p .mark) (p .next)
+onParsed (Refused number place) g f = g number place
+
+-- a record that owns a list: how it stands, and the passes that the counts allow it
+pub record Owner : Type 0 where
+  pub kind : ℕ
+  pub first : ℕ
+  pub second : ℕ
+  pub start : ℕ
+  pub standing : ℕ
+  pub product : ℕ
+
+abbrev pub ownerOf : ℕ → ℕ → ℕ → ℕ → ℕ → ℕ → Owner
+ownerOf kind first second start standing product = record {
+  kind = kind;
+  first = first;
+  second = second;
+  start = start;
+  standing = standing;
+  product = product;
+}
+
+-- how a child is read: by its standing and its passes
+abbrev pub ChildReader : Type 0
+ChildReader = ℕ → ℕ → Cursor → Parsed
+
+abbrev pub childOf : ChildReader → Owner → ℕ → ℕ → Cursor → Parsed
+childOf read o i marked =
+    let w = waysOf (o .kind) (o .first) (o .second) (o .standing) (o .product) in
+    read (wayOf w i marked) (w .inner)
+
+-- n children from child i on, after a tally and the marked branches kept, and the record's end
+unfoldable pub listOf : ChildReader → Owner → ℕ → ℕ → Cursor → Tally → List ℕ → Parsed
+listOf read o zero i c t marks = closeOf (o .kind) (o .first) (o .second) t (chargesOf (o .product) (t .top) 0 marks) (o .start) c
+listOf read o (suc n) i c t marks =
+    onParsed (childOf read o i (length marks) c) Refused (λ value over extra mark next.
+    listOf read o n (i + 1) next (withOf (o .kind) (o .first) i t value over extra mark) (keptOf (o .kind) i value mark marks))
+
+-- a good record, and what it owns
+unfoldable pub ownedOf : ChildReader → List ℕ → ℕ → ℕ → ℕ → Read → Parsed
+ownedOf read bounds start standing product r =
+    pick (eqb (r .kind) 2) (Plain (r .first) (r .next))
+    (pick (eqb (r .kind) 8) (Plain (getD bounds (r .first - 1) 0) (r .next))
+    (pick (eqb (r .kind) 9) (Done (part (r .second) 0 0 (r .first + 1) (r .next)))
+    (listOf read (ownerOf (r .kind) (r .first) (r .second) start standing product) (r .children) 0 (r .next) noTally [])))
+
+-- the construct at a cursor, with so many depths left
+unfoldable pub constructOf : ℕ → List ℕ → List ℕ → ℕ → ChildReader
+constructOf zero s bounds own standing product c = onHead (recordOf s (Construct own 0 standing) c) Refused (λ r. Refused 8 (c .at))
+constructOf (suc left) s bounds own standing product c =
+    onHead (recordOf s (Construct own (suc left) standing) c) Refused (ownedOf (constructOf left s bounds own) bounds (c .at) standing product)
+
+-- a routine, whose organisation and body add up as the time and the statement of a timed loop
+unfoldable pub routineOf : List ℕ → List ℕ → ℕ → Cursor → Parsed
+routineOf s bounds own c =
+    onHead (recordOf s Routine c) Refused (λ r.
+    listOf (constructOf 24 s bounds own) (ownerOf 7 (r .first) 0 (c .at) 0 0) 1 0 (r .next) noTally [])
+
+-- no bounds yet; one more
+unfoldable pub noBounds : Bounds
+noBounds = record { values = replicate 64 0; count = 0 }
+
+unfoldable pub boundsWith : Bounds → ℕ → Bounds
+boundsWith b v = record { values = set (b .values) (b .count) v; count = b .count + 1 }
+
+-- a sheet of so many bytes, before its routines and after one more, where the part of a routine is asked for by number
+unfoldable pub runFrom : ℕ → Cursor → Run
+runFrom long c = record { last = 0; over = 0; start = long; end = long; at = c }
+
+unfoldable pub runWith : Run → ℕ → ℕ → ℕ → ℕ → Cursor → Run
+runWith run own number value over next = record {
+  last = value;
+  over = pick (eqb (run .over) 0) over (run .over);
+  start = pick (eqb own number) (run .at .at) (run .start);
+  end = pick (eqb own number) (next .at) (run .end);
+  at = next;
+}
+
+-- a refusal tells no part
+unfoldable pub refusal : ℕ → ℕ → ℕ → Bounds → Report
+refusal long number place b = record { answer = answer.Refused number place; bounds = b; start = long; end = long }
+
+-- EXTRA, then TOO BIG, then the bound of the last routine
+unfoldable pub verdictOf : ℕ → Bounds → Run → Report
+verdictOf long b run =
+    pick (ltb (run .at .at) long) (refusal long 11 (run .at .at) b)
+    (pick (eqb (run .over) 0)
+    (record { answer = answer.Accepted (run .last); bounds = b; start = run .start; end = run .end })
+    (refusal long 12 (run .over) b))
+
+-- n routines more
+unfoldable pub routinesOf : ℕ → List ℕ → ℕ → Bounds → Run → Report
+routinesOf zero s number b run = verdictOf (length s) b run
+routinesOf (suc n) s number b run =
+    onParsed (routineOf s (b .values) (b .count + 1) (run .at)) (λ k p. refusal (length s) k p b) (λ value over extra mark next.
+    routinesOf n s number (boundsWith b value) (runWith run (b .count + 1) number value over next))
+
+-- the sheet record, then its routines
+unfoldable pub sheetOf : List ℕ → ℕ → Report
+sheetOf s number =
+    onHead (recordOf s Sheet (record { at = 0 })) (λ k p. refusal (length s) k p noBounds) (λ r.
+    routinesOf (r .second) s number noBounds (runFrom (length s) (r .next)))
+
+-- TOO LONG comes first
+unfoldable pub readOf : List ℕ → ℕ → Report
+readOf s number = pick (ltb 60000 (length s)) (refusal (length s) 2 0 noBounds) (sheetOf s number)
+
+-- What the readers are lent: the bounds of earlier routines, and room for the marked branches; at least 8 bytes stand for each that is held.
+pub record Lent (s bounds marks : List ℕ) (own product held at : ℕ) : Type 0 where
+  pub small : (i : ℕ) → getD bounds i 0 ≤ 1099511627775
+  pub few : own ≤ 64
+  pub passes : product ≤ 1000000
+  pub room : length s ≤ 8 * length marks
+  pub kept : 8 * held ≤ at
+
+-- a record that owns n constructs
+pub record Owns (kind first n : ℕ) : Type 0 where
+  pub counts : Counts kind first
+  pub cost : first ≤ 4294967295
+  pub few : n ≤ 1001
+  pub sum : n * heaviest kind ≤ heaviestSum
