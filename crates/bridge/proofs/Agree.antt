@@ -9,14 +9,13 @@ use Rattle.meaning.specs.Tree.{Marker, Construct, numbered, itself, mark}
 use Rattle.meaning.specs.Format.{pick}
 use Rattle.meaning.specs.Legal.{Reach}
 use Rattle.meaning.specs.Value.{Known, value, total, times, charges}
-use Rattle.meaning.specs.Judgement.{Reading, refused, found, constructAt}
+use Rattle.meaning.specs.Judgement.{Reading, refused, found}
 use Rattle.meaning.specs.Answer.{valueLimit, ended, tooBig}
 use Rattle.records.specs.declared.Cursor.{Cursor}
 use Rattle.reader.specs.declared.Parsed.{Parsed}
 use Rattle.reader.specs.declared.Parsed.the-variants.{Plain, Done, Refused}
 use Rattle.reader.specs.declared.Part.{Part}
 use Rattle.reader.specs.Tallies.{valueCap}
-use Rattle.reader.specs.Reader.{constructOf}
 
 -- how a construct stands, by number, for its reach and for whether it is, or leads, a last branch whose fellows are all marked
 abbrev pub standingOf : Reach → Bool → ℕ
@@ -41,6 +40,7 @@ pub record Agrees (known : Known) (product at : ℕ) (c : Construct) (past v o e
   pub reached : next .at ≡ past
   pub over : Over (tooBig (ended known at c)) o
   pub amount : tooBig (ended known at c) ≡ none → v ≡ value known c
+  pub small : v ≤ valueLimit
   pub extra : tooBig (ended known at c) ≡ none → e ≡ min valueCap (total (times product (charges known c)))
   pub marked : m ≡ markNumber (either (itself c) (mark c))
 
@@ -61,10 +61,3 @@ Small bounds = (i : ℕ) → getD bounds i 0 ≤ valueLimit
 -- how constructs lie in a sheet: a branch, and what leads one, is inside an alternative, and none is both
 abbrev pub occurs : Reach → Bool
 occurs r = pick (r .branch) (pick (r .lead) false (r .alternative)) (pick (r .lead) (r .alternative) true)
-
--- the code's reading of a construct at a place agrees with the judgement's
-abbrev pub ConstructLaw : Type 0
-ConstructLaw =
-    (known : Known) (s bounds : List ℕ) (before own : ℕ) → own ≡ before + 1 → Finds known bounds before → Small bounds →
-    (depth left : ℕ) → depth + left ≡ 25 → (r : Reach) → occurs r ≡ true → (last : Bool) (product held at : ℕ) → held ≡ min 1000000 product → 1 ≤ at →
-    Same known product at (constructOf left s bounds own (standingOf r last) held (record { at = at })) (constructAt left s own r last at)

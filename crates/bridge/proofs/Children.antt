@@ -50,7 +50,7 @@ module _ {known : Known} {kind count inner : ℕ} where
   adds-over {at = at} {t = t} (one-more {d = d} {o = o} {c = c} {cs = cs} g q rest) a h =
       let later = endedIn known (at + length (bytes c)) cs in
       rw (big-append (ended known at c) later, ← also-assoc a (tooBig (ended known at c)) (tooBig later), ← q)
-      (adds-over rest (also a (tooBig (ended known at c))) (over-also a (tooBig (ended known at c)) (t .over) o h (g .over)))
+      (adds-over rest (also a (tooBig (ended known at c))) (over-also a (tooBig (ended known at c)) (t .over) o h (λ _. g .over)))
 
   -- what their markers add
   pub adds-extra : {i at past : ℕ} {t t' : Tally} {marks marks' : List ℕ} {cs : Constructs} → Adds known kind count inner i at t marks cs past t' marks' →

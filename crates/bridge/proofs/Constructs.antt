@@ -1,20 +1,19 @@
 -- The law of constructs: what the code reads and tells of a construct agrees with document 01's judgement and values.
 use Prim.Native.Nat.{ℕ, zero, suc, _+_, _-_, _≤_, min}
-use mathlib.Core.Path.{_≡_, refl, sym, ap, _∙_}
+use mathlib.Core.Path.{_≡_, refl, sym}
 use mathlib.Core.Bool.{Bool, true, false≢true}
 use mathlib.Core.List.{List, []}
 use mathlib.Core.Option.{none}
-use lib.ListN.{length}
 use lib.Dec.{leb, eqb}
 use borrow.Author.Tests.{le-ltb, leb-false, eqb-false}
 use native.Mathlib.Omega.{arith}
 use Rattle.meaning.specs.Tree.{Construct, primitive, call, marker, itself, mark}
-use Rattle.meaning.specs.Format.{rangesOf, lengthOf, Record, field}
+use Rattle.meaning.specs.Format.{rangesOf, Record, field}
 use Rattle.meaning.specs.Legal.{Reach}
 use Rattle.meaning.specs.Value.{Known, total, times, value, charges}
 use Rattle.meaning.specs.Judgement.{Reading, refused, andThen, construct, ConstructReader, owned, constructAt}
 use Rattle.meaning.specs.Answer.{valueLimit, ended, ends, tooBig}
-use Rattle.meaning.proofs.Laws.{pick-false, length-record}
+use Rattle.meaning.proofs.Laws.{pick-false}
 use Rattle.demands.proofs.Found.{Found, not-read, was-read}
 use Rattle.demands.proofs.Good.{good}
 use Rattle.demands.proofs.Records.{Judged, judged-good, Sort, sort}
@@ -23,10 +22,10 @@ use Rattle.records.specs.declared.Read.{Read}
 use Rattle.records.specs.Records.{childrenOf, headOf}
 use Rattle.reader.specs.declared.Parsed.the-variants.{Refused}
 use Rattle.reader.specs.Reader.{onHead, ChildReader, ownedOf, constructOf}
-use Rattle.bridge.proofs.Agree.{standingOf, occurs, markNumber, either, Agrees, Same, both-refused, read-plain, read-done, Finds, Small, ConstructLaw}
+use Rattle.bridge.proofs.Agree.{standingOf, occurs, markNumber, either, Agrees, Same, both-refused, read-plain, read-done, Finds, Small}
 use Rattle.bridge.proofs.Standings.{judged-alike}
 use Rattle.bridge.proofs.Marks.{first-most}
-use Rattle.bridge.proofs.Readers.{Alike, Sure}
+use Rattle.bridge.proofs.Readers.{Alike, Sure, past-record}
 use Rattle.bridge.proofs.Sequences.{sequence-law}
 use Rattle.bridge.proofs.Alternatives.{alternative-law}
 use Rattle.bridge.proofs.Loops.{head-loop-law, tail-loop-law, timed-loop-law}
@@ -37,7 +36,7 @@ leaf : (known : Known) (product at next v m : ℕ) (c : Construct) → v ≡ val
 unfolding tooBig times total
 leaf known product at next v m c e h alone free marked =
     let small : tooBig (ended known at c) ≡ none = rw (alone, ← e, le-ltb valueLimit v h) in
-    record { reached = refl; over = rw small; amount = λ z. e; extra = λ z. rw free; marked = marked }
+    record { reached = refl; over = rw small; amount = λ z. e; small = h; extra = λ z. rw free; marked = marked }
 
 -- a record as the code holds it
 abbrev readOf : Record → ℕ → Read
@@ -46,9 +45,6 @@ readOf x next = record { kind = x .kind; first = field x 0; second = field x 1; 
 module _ (known : Known) (s bounds : List ℕ) (before own : ℕ) (number : own ≡ before + 1) (finds : Finds known bounds before) (small : Small bounds) where
   module _ (depth left : ℕ) (read : ChildReader) (g : ConstructReader) (alike : Alike known read g) (sure : Sure s before own number (suc depth) g)
       (r : Reach) (lies : occurs r ≡ true) (last : Bool) (product held at : ℕ) (cap : held ≡ min 1000000 product) (place : 1 ≤ at) where
-    past-record : {x : Record} {next : ℕ} → Judged s (construct own left r last) at x next → next ≡ at + lengthOf (length (x .fields))
-    past-record {x} j = j .span .long ∙ ap (λ z. at + z) (length-record x)
-
     owned-law : {x : Record} {next : ℕ} → Sort x → Judged s (construct own left r last) at x next →
         Same known product at (ownedOf read bounds at (standingOf r last) held (readOf x next)) (owned g r last x next)
     unfolding ownedOf childrenOf rangesOf ended value
@@ -88,17 +84,14 @@ module _ (known : Known) (s bounds : List ℕ) (before own : ℕ) (number : own 
   too-deep r last product at (not-read n) = both-refused
   too-deep r last product at (was-read j) = absurd (false≢true (sym (j .place .1)))
 
-  constructs-alike : (depth left : ℕ) → depth + left ≡ 25 → Alike known (constructOf left s bounds own) (constructAt left s own)
+  -- a construct is read by the code as by the judgement, at any reach and place
+  pub construct-law : (depth left : ℕ) → depth + left ≡ 25 → Alike known (constructOf left s bounds own) (constructAt left s own)
   unfolding constructOf constructAt
-  constructs-alike depth zero e r last product standing held at c lies way cap q place =
+  construct-law depth zero e r last product standing held at c lies way cap q place =
       rw (way, q, judged-alike s own 0 at r lies last) (too-deep r last product at (judged-good s (construct own 0 r last) at))
-  constructs-alike depth (suc left) e r last product standing held at c lies way cap q place =
-      let alike = constructs-alike (suc depth) left (omega arith) in
+  construct-law depth (suc left) e r last product standing held at c lies way cap q place =
+      let alike = construct-law (suc depth) left (omega arith) in
       let sure = good s before own number (suc depth) left (omega arith) in
       rw (way, q, judged-alike s own (suc left) at r lies last)
       (record-law depth (suc left) (constructOf left s bounds own) (constructAt left s own) alike sure r lies last product held at cap place
       (judged-good s (construct own (suc left) r last) at))
-
-pub construct-law : ConstructLaw
-construct-law known s bounds before own number finds small depth left e r lies last product held at cap place =
-    constructs-alike known s bounds before own number finds small depth left e r last product _ held at _ lies refl cap refl place

@@ -24,7 +24,7 @@ also none b = b
 also (some place) b = some place
 
 -- the place of a record, if its value is too large
-abbrev pub check : ℕ → ℕ → Option ℕ
+abbrev check : ℕ → ℕ → Option ℕ
 check at v = pick (ltb valueLimit v) (some at) none
 
 pub big-append : (xs ys : List Ended) → tooBig (xs ++ ys) ≡ also (tooBig xs) (tooBig ys)
@@ -53,8 +53,8 @@ pub also-right : (a : Option ℕ) → also a none ≡ a
 also-right none = refl
 also-right (some place) = refl
 
-pub over-also : (a b : Option ℕ) (m n : ℕ) → Over a m → Over b n → Over (also a b) (pick (eqb m 0) n m)
-over-also none b m n h k = rw (eq-eqb m 0 h) k
+pub over-also : (a b : Option ℕ) (m n : ℕ) → Over a m → (a ≡ none → Over b n) → Over (also a b) (pick (eqb m 0) n m)
+over-also none b m n h k = rw (eq-eqb m 0 h) (k refl)
 over-also (some place) b m n h k = rw (ne-eqb m 0 (λ e. omega arith)) h
 
 -- two values of which both are too large, or which are the same
@@ -76,16 +76,16 @@ pub record Closes (known : Known) (product at : ℕ) (c : Construct) (inner : Op
 module _ (known : Known) (product at : ℕ) (c : Construct) (v over e m past : ℕ) (next : Cursor) (place : 1 ≤ at) (reached : next .at ≡ past) where
   -- where some record is too big, nothing more is told than its place
   big : (n o : ℕ) → (n ≡ o) × (1 ≤ o) → m ≡ markNumber (either (itself c) (mark c)) → tooBig (ended known at c) ≡ some o → Agrees known product at c past 0 n e m next
-  big n o h marked q = record { reached = reached; over = rw q h; amount = λ z. none-some z; extra = λ z. none-some z; marked = marked }
+  big n o h marked q = record { reached = reached; over = rw q h; amount = λ z. none-some z; small = omega arith; extra = λ z. none-some z; marked = marked }
     where
       none-some : {a b : ℕ} → tooBig (ended known at c) ≡ none → a ≡ b
       none-some z = let clash : _≡_ {A = ℕ} 0 1 = cc in absurd (omega arith)
 
   -- where none is, its value is told, and its extra and mark unless both are 0
-  module _ (amount : v ≡ value known c) (q : tooBig (ended known at c) ≡ none) where
+  module _ (amount : v ≡ value known c) (low : v ≤ valueLimit) (q : tooBig (ended known at c) ≡ none) where
     small : (e' m' : ℕ) → e' ≡ min valueCap (total (times product (charges known c))) → m' ≡ markNumber (either (itself c) (mark c)) →
         Agrees known product at c past v 0 e' m' next
-    small e' m' extra marked = record { reached = reached; over = rw q; amount = λ z. amount; extra = λ z. extra; marked = marked }
+    small e' m' extra marked = record { reached = reached; over = rw q; amount = λ z. amount; small = low; extra = λ z. extra; marked = marked }
 
     shortened : e ≡ min valueCap (total (times product (charges known c))) → m ≡ markNumber (either (itself c) (mark c)) →
         (t : Bool) → pick (eqb e 0) (eqb m 0) false ≡ t → Same known product at (pick t (Plain v next) (Done (part v 0 e m next))) (found c past)
@@ -109,4 +109,4 @@ module _ (known : Known) (product at : ℕ) (c : Construct) (v over e m past : �
           let a = h .amount refl in
           let x = ltb-false valueLimit v t in
           let y = ltb-false valueLimit (value known c) u in
-          shortened (omega arith) (h .listed ∙ rw u) (h .extra refl) (h .marked) (pick (eqb e 0) (eqb m 0) false) refl
+          shortened (omega arith) x (h .listed ∙ rw u) (h .extra refl) (h .marked) (pick (eqb e 0) (eqb m 0) false) refl

@@ -1,31 +1,27 @@
 -- What the code holds after any number of routines is what document 01 says of the sheet of these routines.
-use Prim.Native.Nat.{ℕ, zero, suc, _+_, _-_, _<_}
-use mathlib.Core.Path.{_≡_, refl, sym, ap, ap₂, subst, _∙_}
+use Prim.Native.Nat.{ℕ, zero, suc, _+_, _-_, _≤_, _<_}
+use mathlib.Core.Path.{_≡_, refl, sym, ap, ap₂, _∙_}
 use mathlib.Core.Bool.{Bool, true, false}
 use mathlib.Core.List.{List, [], _∷_, _++_}
-use mathlib.Core.Option.{Option, some, none}
-use lib.ListN.{length, take, set, length-set}
-use lib.Seq.{length-take-le, take-suc-set, getD-take}
+use mathlib.Core.Option.{Option, none}
+use lib.ListN.{length, getD, take, set, length-set}
+use lib.Seq.{length-take-le, take-suc-set, getD-take, getD-set-same, getD-set-other}
 use lib.Dec.{eqb}
-use borrow.Author.Tests.{le-ltb}
+use borrow.Author.Tests.{le-ltb, eqb-true, eqb-false}
 use native.Mathlib.Omega.{arith}
 use native.Mathlib.Numerals.{add-one}
 use Rattle.meaning.specs.Tree.{Routine}
 use Rattle.meaning.specs.Format.{pick, routinesBytes}
-use Rattle.meaning.specs.Value.{Known, bound, bounds, nothing, boundsOf, taskBound}
-use Rattle.meaning.specs.Answer.{endedRoutines, endedOf, tooBig, accepted, partIn}
+use Rattle.meaning.specs.Value.{Known, value, bounds, nothing, boundsOf, taskBound}
+use Rattle.meaning.specs.Answer.{valueLimit, ended, endedRoutines, endedOf, tooBig, accepted, partIn}
 use Rattle.records.specs.declared.Cursor.{Cursor}
 use Rattle.reader.specs.declared.Bounds.{Bounds}
 use Rattle.reader.specs.declared.Run.{Run}
 use Rattle.reader.specs.Reader.{noBounds, boundsWith, runFrom, runWith}
-use Rattle.bridge.proofs.Agree.{Over, Finds}
-use Rattle.bridge.proofs.Routines.{firstOf, over-none, over-some, endedRoutine, Fits}
-use Rattle.bridge.proofs.More.{placeAfter, sheetWith, more, length-more, place-more, bounds-more, too-big-more, task-more, part-more}
-
--- neither of two is there
-first-none : (i j : Option ℕ) → firstOf i j ≡ none → (i ≡ none) × (j ≡ none)
-first-none none j e = (refl, e)
-first-none (some place) j e = (cc, cc)
+use Rattle.reader.proofs.Under.{no-bounds-small}
+use Rattle.bridge.proofs.Agree.{Over, Agrees, Finds, Small}
+use Rattle.bridge.proofs.Ends.{also, also-none, over-also}
+use Rattle.bridge.proofs.More.{asLoop, Long, placeAfter, sheetWith, more, length-more, place-more, bounds-more, too-big-more, task-more, part-more}
 
 -- the bounds read so far, as what calls know
 abbrev pub knownTo : Bounds → Known
@@ -45,6 +41,7 @@ module _ (s : List ℕ) (number edition : ℕ) where
     pub place : run .at .at ≡ placeAfter rs
     pub many : b .count ≡ length rs
     pub room : length (b .values) ≡ 64
+    pub small : Small (b .values)
     pub over : Over (bigIn rs) (run .over)
     pub values : bigIn rs ≡ none → take (b .count) (b .values) ≡ boundsOf (sheetWith edition rs)
     pub last : bigIn rs ≡ none → run .last ≡ taskBound (sheetWith edition rs)
@@ -52,22 +49,23 @@ module _ (s : List ℕ) (number edition : ℕ) where
 
   pub holds-none : (c : Cursor) → c .at ≡ 12 → Holds [] noBounds (runFrom (length s) c)
   unfolding noBounds runFrom routinesBytes endedRoutines tooBig bounds
-  holds-none c e = record { place = e; many = refl; room = refl; over = refl; values = λ _. refl; last = λ _. refl; part = none-asked number }
+  holds-none c e = record { place = e; many = refl; room = refl; small = no-bounds-small; over = refl; values = λ _. refl; last = λ _. refl; part = none-asked number }
     where
       none-asked : (k : ℕ) → partIn s (accepted (sheetWith edition [])) k ≡ record { start = length s; stop = length s }
       none-asked zero = refl
       none-asked (suc i) = rw (le-ltb i 0 (omega arith))
 
   module _ {rs : List Routine} {b : Bounds} {run : Run} (d : Holds rs b run) (space : b .count < 64)
-      {r : Routine} {past v o : ℕ} {next : Cursor} (f : Fits (knownTo b) (run .at .at) r past v o next) where
+      {r : Routine} {past v o e m : ℕ} {next : Cursor} (f : Agrees (knownTo b) 0 (run .at .at) (asLoop r) past v o e m next)
+      (long : Long (run .at .at) r past) where
     abbrev known : Known
     known = bounds nothing rs
 
     -- while no record was too big, the code's bounds are the sheet's
-    fits : bigIn rs ≡ none → Fits known (placeAfter rs) r past v o next
-    fits h =
+    agrees : bigIn rs ≡ none → Agrees known 0 (placeAfter rs) (asLoop r) past v o e m next
+    agrees h =
         let same : knownTo b ≡ known = ap (λ z. record { bounds = z }) (d .values h) in
-        subst (λ z. Fits z (placeAfter rs) r past v o next) same (subst (λ z. Fits (knownTo b) z r past v o next) (d .place) f)
+        rw (← same, ← d .place) f
 
     pub holds-more : Holds (more r rs) (boundsWith b v) (runWith run (b .count + 1) number v o next)
     unfolding boundsWith runWith
@@ -75,26 +73,29 @@ module _ (s : List ℕ) (number edition : ℕ) where
       place = place;
       many = (let n = length-more r rs in let k = d .many in omega arith);
       room = length-set (b .values) (b .count) v ∙ d .room;
-      over = over (bigIn rs) refl (d .over);
+      small = small;
+      over = rw big (over-also (bigIn rs) _ (run .over) o (d .over) (λ h. agrees h .over));
       values = values;
       last = last;
       part = rw (ap (λ n. eqb (n + 1) number) (d .many)) (part-more r s edition rs number ∙ part (eqb (length rs + 1) number));
     }
       where
         place : next .at ≡ placeAfter (more r rs)
-        place = let n = place-more r rs in let a = f .reached in let b = f .long in let c = d .place in omega arith
+        place = let n = place-more r rs in let a = f .reached in let c = d .place in omega arith
 
-        big : bigIn (more r rs) ≡ firstOf (bigIn rs) (tooBig (endedRoutine known (placeAfter rs) r))
+        big : bigIn (more r rs) ≡ also (bigIn rs) (tooBig (ended known (placeAfter rs) (asLoop r)))
         big = too-big-more r rs nothing 12
 
-        over : (i : Option ℕ) → bigIn rs ≡ i → Over i (run .over) →
-            Over (bigIn (more r rs)) (pick (eqb (run .over) 0) o (run .over))
-        over none p x = rw (over-none x, big, p) (fits p .over)
-        over (some first) p x = rw (over-some x, big, p) x
+        small : Small (set (b .values) (b .count) v)
+        small i = go (eqb i (b .count)) refl
+          where
+            go : (t : Bool) → eqb i (b .count) ≡ t → getD (set (b .values) (b .count) v) i 0 ≤ valueLimit
+            go true p = let room = d .room in rw (eqb-true i (b .count) p, getD-set-same (b .values) (b .count) v 0 (omega arith)) (f .small)
+            go false p = rw (getD-set-other (b .values) (b .count) i v 0 (eqb-false i (b .count) p)) (d .small i)
 
         -- no record is too big, so none was before
-        before : bigIn (more r rs) ≡ none → (bigIn rs ≡ none) × (v ≡ bound known r)
-        before h = let (a, b) = first-none _ _ (sym big ∙ h) in (a, fits a .amount b)
+        before : bigIn (more r rs) ≡ none → (bigIn rs ≡ none) × (v ≡ value known (asLoop r))
+        before h = let (a, b) = also-none _ _ (sym big ∙ h) in (a, agrees a .amount b)
 
         values : bigIn (more r rs) ≡ none → take (b .count + 1) (set (b .values) (b .count) v) ≡ boundsOf (sheetWith edition (more r rs))
         values h =

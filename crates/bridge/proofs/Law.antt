@@ -12,7 +12,6 @@ use Rattle.reader.specs.declared.Answer.the-variants.{Accepted}
 use Rattle.reader.specs.declared.Report.{Report}
 use Rattle.reader.specs.Reader.{noBounds, refusal, sheetOf, readOf}
 use Rattle.reader.specs.Said.{saidOf, storedOf, partSaid}
-use Rattle.bridge.proofs.Agree.{ConstructLaw}
 use Rattle.bridge.proofs.Sheets.{Reports, refusal-law, sheet-law}
 
 -- the answer; on acceptance the bounds, as a table is to hold them; the part of the routine that was asked for
@@ -25,13 +24,13 @@ abbrev pub ReadLaw : Type 0
 ReadLaw = (s : List ℕ) (number : ℕ) → Reported s number (readOf s number)
 
 -- TOO LONG comes first
-pub read-law : ConstructLaw → ReadLaw
+pub read-law : ReadLaw
 unfolding readOf outcome partOf
-read-law construct-law s number = record { said = reports .said; kept = reports .kept; part = reports .part }
+read-law s number = record { said = reports .said; kept = reports .kept; part = reports .part }
   where
     by-length : (t : Bool) → Reports s number (pick t (refusal (length s) 2 0 noBounds) (sheetOf s number)) (pick t (refused 2 0) (judgement (sheetAt s 0)))
     by-length true = refusal-law s number 2 0 noBounds
-    by-length false = sheet-law construct-law s number
+    by-length false = sheet-law s number
 
     reports : Reports s number (readOf s number) (outcome s)
     reports = by-length (ltb 60000 (length s))

@@ -15,9 +15,9 @@ use Rattle.meaning.specs.Answer.{ended, endedIn, ends, tooBig}
 use Rattle.demands.proofs.Good.{Unmarked}
 use Rattle.records.specs.declared.Cursor.{Cursor}
 use Rattle.reader.specs.declared.Tally.{Tally}
-use Rattle.reader.specs.Tallies.{valueCap, chargesOf, counted, isBranch, noTally, valueOf, endedOf, closeOf}
+use Rattle.reader.specs.Tallies.{valueCap, chargesOf, counted, isBranch, noTally, withOf, keptOf, valueOf, endedOf, closeOf}
 use Rattle.reader.specs.Ways.{bodyOf, innerOf, waysOf}
-use Rattle.reader.specs.Reader.{ChildReader, ownerOf, listOf}
+use Rattle.reader.specs.Reader.{ChildReader, Owner, ownerOf, listOf}
 use Rattle.bridge.proofs.Agree.{standingOf, occurs, markNumber, either, Same}
 use Rattle.bridge.proofs.Standings.{body-occurs, body-law, way-fixed, downTo, inner-law}
 use Rattle.bridge.proofs.Ends.{big-end, ended-law}
@@ -81,6 +81,9 @@ module _ (known : Known) (s : List ℕ) (before own : ℕ) (number : own ≡ bef
       Same known (downTo (eqb second 1) count product) at (read standing (innerOf count second held) c) (g nowhere false at)
   at-nowhere standing at c h q p = alike nowhere false _ _ _ at c refl h (inner-law count second product held few cap) q p
 
+  abbrev owner : ℕ → Owner
+  owner kind = ownerOf kind count second start (standingOf r last) held
+
   abbrev loop : Loop
   loop = record { count = count; scope = eqb second 1 }
 
@@ -118,8 +121,7 @@ module _ (known : Known) (s : List ℕ) (before own : ℕ) (number : own ≡ bef
     children = (bare-body b hb, (bare c hc, (bare o ho, tt)));
   }
 
-  pub head-loop-law : Same known product start (listOf read (ownerOf 5 count second start (standingOf r last) held) 4 0 (record { at = start + 12 }) noTally [])
-      (headLoopAt g r loop (start + 12))
+  pub head-loop-law : Same known product start (listOf read (owner 5) 4 0 (record { at = start + 12 }) noTally []) (headLoopAt g r loop (start + 12))
   unfolding listOf closeOf waysOf headLoopAt
   head-loop-law =
       next-child _ _ (at-nowhere _ (start + 12) _ (way-fixed _ _ _ _ 0 0) refl (omega arith)) (sure nowhere false (start + 12)) (λ v1 o1 e1 m1 next1 i d1 a1 x1.
@@ -128,13 +130,13 @@ module _ (known : Known) (s : List ℕ) (before own : ℕ) (number : own ≡ bef
       let n2 = x2 .span .long in
       next-child _ _ (at-body _ d2 next2 (way-fixed _ _ _ _ 2 _) (a2 .reached) (omega arith)) (sure (asBody (eqb second 1) r) false d2) (λ v3 o3 e3 m3 next3 b d3 a3 x3.
       let n3 = x3 .span .long in
-      next-child _ _ (at-nowhere _ d3 next3 (way-fixed _ _ _ _ 3 _) (a3 .reached) (omega arith)) (sure nowhere false d3) (λ v4 o4 e4 m4 next4 o d4 a4 x4.
+      next-child (λ v o e m next. listOf read (owner 5) 0 4 next (withOf 5 count 3 _ v o e m) (keptOf 5 3 v m _)) _
+      (at-nowhere _ d3 next3 (way-fixed _ _ _ _ 3 _) (a3 .reached) (omega arith)) (sure nowhere false d3) (λ v4 o4 e4 m4 next4 o d4 a4 x4.
       loop-closed known 5 count held product start (start + 12) d4 (headLoop loop i c b o) b (i then c then b then o then end) next4
       (λ _. refl) refl place (a4 .reached) (eqb second 1) (head-ending i c b o (x1 .legal) (x2 .legal) (x3 .legal) (x4 .legal))
       (one-more a1 n1 (one-more a2 n2 (one-more a3 n3 (one-more a4 (x4 .span .long) no-more))))))))
 
-  pub tail-loop-law : Same known product start (listOf read (ownerOf 6 count second start (standingOf r last) held) 3 0 (record { at = start + 12 }) noTally [])
-      (tailLoopAt g r loop (start + 12))
+  pub tail-loop-law : Same known product start (listOf read (owner 6) 3 0 (record { at = start + 12 }) noTally []) (tailLoopAt g r loop (start + 12))
   unfolding listOf closeOf waysOf tailLoopAt
   tail-loop-law =
       next-child _ _ (at-body _ (start + 12) _ (way-fixed _ _ _ _ 0 0) refl (omega arith)) (sure (asBody (eqb second 1) r) false (start + 12))
@@ -142,7 +144,8 @@ module _ (known : Known) (s : List ℕ) (before own : ℕ) (number : own ≡ bef
       let n1 = x1 .span .long in
       next-child _ _ (at-nowhere _ d1 next1 (way-fixed _ _ _ _ 1 _) (a1 .reached) (omega arith)) (sure nowhere false d1) (λ v2 o2 e2 m2 next2 c d2 a2 x2.
       let n2 = x2 .span .long in
-      next-child _ _ (at-nowhere _ d2 next2 (way-fixed _ _ _ _ 2 _) (a2 .reached) (omega arith)) (sure nowhere false d2) (λ v3 o3 e3 m3 next3 o d3 a3 x3.
+      next-child (λ v o e m next. listOf read (owner 6) 0 3 next (withOf 6 count 2 _ v o e m) (keptOf 6 2 v m _)) _
+      (at-nowhere _ d2 next2 (way-fixed _ _ _ _ 2 _) (a2 .reached) (omega arith)) (sure nowhere false d2) (λ v3 o3 e3 m3 next3 o d3 a3 x3.
       loop-closed known 6 count held product start (start + 12) d3 (tailLoop loop b c o) b (b then c then o then end) next3
       (λ _. refl) refl place (a3 .reached) (eqb second 1) (tail-ending b c o (x1 .legal) (x2 .legal) (x3 .legal))
       (one-more a1 n1 (one-more a2 n2 (one-more a3 (x3 .span .long) no-more))))))

@@ -9,11 +9,19 @@ use lib.Dec.{ltb, eqb}
 use borrow.Author.Tests.{ltb-true, ltb-false, lt-ltb, le-ltb, eqb-true, eqb-false, ne-eqb}
 use native.Mathlib.Omega.{arith}
 use native.Mathlib.Nat.{lt-of-not-le}
-use Rattle.meaning.specs.Tree.{Routine, Sheet, numbered}
+use Rattle.meaning.specs.Tree.{Construct, timedLoop, Routine, Sheet, numbered}
 use Rattle.meaning.specs.Format.{pick, routineBytes, routinesBytes}
-use Rattle.meaning.specs.Value.{Known, bound, knowing, bounds, nothing, boundsOf, taskBound}
-use Rattle.meaning.specs.Answer.{endedRoutines, tooBig, accepted, routinePlace, emptyPart, partIn}
-use Rattle.bridge.proofs.Routines.{firstOf, too-big-in, endedRoutine}
+use Rattle.meaning.specs.Value.{Known, value, bound, knowing, bounds, nothing, boundsOf, taskBound}
+use Rattle.meaning.specs.Answer.{ended, endedRoutines, tooBig, accepted, routinePlace, emptyPart, partIn}
+use Rattle.bridge.proofs.Ends.{also, big-append}
+
+-- a routine adds up, and its records end, as a timed loop of its organisation and its body
+abbrev pub asLoop : Routine → Construct
+asLoop r = timedLoop (record { time = r .organisation }) (r .body)
+
+-- it is read from a place up to another
+abbrev pub Long : ℕ → Routine → ℕ → Type 0
+Long at r past = past ≡ at + length (routineBytes r)
 
 -- how long routines are
 abbrev sizeOf : List Routine → ℕ
@@ -44,31 +52,31 @@ module _ (r : Routine) where
       let c = place-more rs in
       omega arith
 
-  pub bounds-more : (rs : List Routine) (known : Known) → bounds known (more rs) ≡ knowing (bounds known rs) (bound (bounds known rs) r)
-  unfolding bounds
+  pub bounds-more : (rs : List Routine) (known : Known) → bounds known (more rs) ≡ knowing (bounds known rs) (value (bounds known rs) (asLoop r))
+  unfolding bounds bound value
   bounds-more [] known = refl
   bounds-more (x ∷ rs) known = bounds-more rs (knowing known (bound known x))
 
   -- the records of the one more end after those of the others
   ended-more : (rs : List Routine) (known : Known) (at : ℕ) →
-      endedRoutines known at (more rs) ≡ endedRoutines known at rs ++ endedRoutine (bounds known rs) (at + sizeOf rs) r
-  unfolding endedRoutines bounds routinesBytes
+      endedRoutines known at (more rs) ≡ endedRoutines known at rs ++ ended (bounds known rs) (at + sizeOf rs) (asLoop r)
+  unfolding endedRoutines ended bounds bound value routinesBytes
   ended-more [] known at = let e : at + 0 ≡ at = omega arith in rw (e, append-nil)
   ended-more (x ∷ rs) known at =
       let l = length-append (routineBytes x) (routinesBytes rs) in
       let e : at + length (routineBytes x) + sizeOf rs ≡ at + length (routineBytes x ++ routinesBytes rs) = omega arith in
-      rw (ended-more rs (knowing known (bound known x)) (at + length (routineBytes x)), e) (sym (append-assoc (endedRoutine known at x) _ _))
+      rw (ended-more rs (knowing known (bound known x)) (at + length (routineBytes x)), e) (sym (append-assoc (ended known at (asLoop x)) _ _))
 
   pub too-big-more : (rs : List Routine) (known : Known) (at : ℕ) →
-      tooBig (endedRoutines known at (more rs)) ≡ firstOf (tooBig (endedRoutines known at rs)) (tooBig (endedRoutine (bounds known rs) (at + sizeOf rs) r))
-  too-big-more rs known at = ap tooBig (ended-more rs known at) ∙ too-big-in (endedRoutines known at rs) _
+      tooBig (endedRoutines known at (more rs)) ≡ also (tooBig (endedRoutines known at rs)) (tooBig (ended (bounds known rs) (at + sizeOf rs) (asLoop r)))
+  too-big-more rs known at = ap tooBig (ended-more rs known at) ∙ big-append (endedRoutines known at rs) _
 
   -- the task is the last routine
   pub task-more : (edition : ℕ) (rs : List Routine) → length (boundsOf (sheetWith edition rs)) ≡ length rs →
-      taskBound (sheetWith edition (more rs)) ≡ bound (bounds nothing rs) r
+      taskBound (sheetWith edition (more rs)) ≡ value (bounds nothing rs) (asLoop r)
   task-more edition rs n =
       ap₂ (λ known k. numbered (known .bounds) k 0) (bounds-more rs nothing) (length-more rs)
-      ∙ getD-at (boundsOf (sheetWith edition rs)) (bound (bounds nothing rs) r) [] 0 (length rs) n
+      ∙ getD-at (boundsOf (sheetWith edition rs)) (value (bounds nothing rs) (asLoop r)) [] 0 (length rs) n
 
   -- where the one more is asked for, its part is the new one
   pub part-more : (s : List ℕ) (edition : ℕ) (rs : List Routine) (number : ℕ) → partIn s (accepted (sheetWith edition (more rs))) number ≡

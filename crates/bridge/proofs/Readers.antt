@@ -1,13 +1,17 @@
--- How a child is read, by the code and by the judgement, and the rest after it.
+-- How a record and a child are read, by the code and by the judgement, and the rest after it.
 use Prim.Native.Nat.{ℕ, _+_, _≤_, min}
-use mathlib.Core.Path.{_≡_, refl}
+use mathlib.Core.Path.{_≡_, refl, ap, _∙_}
 use mathlib.Core.Bool.{Bool, true}
 use mathlib.Core.List.{List}
 use Rattle.meaning.specs.Tree.{Construct}
+use Rattle.meaning.specs.Format.{Record}
 use Rattle.meaning.specs.Legal.{Reach}
 use Rattle.meaning.specs.Value.{Known}
-use Rattle.meaning.specs.Judgement.{Reading, Reader, refused, found, andThen, ConstructReader}
+use Rattle.meaning.specs.Judgement.{Reading, Reader, refused, found, andThen, Owed, ConstructReader}
+use Rattle.meaning.specs.Answer.{pastRecord}
+use Rattle.meaning.proofs.Laws.{length-record}
 use Rattle.demands.proofs.Found.{Found, not-read, was-read}
+use Rattle.demands.proofs.Records.{Judged}
 use Rattle.demands.proofs.Good.{Good}
 use Rattle.records.specs.declared.Cursor.{Cursor}
 use Rattle.reader.specs.declared.Parsed.{Parsed}
@@ -27,6 +31,10 @@ Sure s before own number depth g = (r : Reach) (last : Bool) (at : ℕ) → Foun
 pub then-assoc : {A B C : Type 0} (x : Reading A) (f : A → Reader B) (g : B → Reader C) → andThen (andThen x f) g ≡ andThen x (λ a next. andThen (f a next) g)
 then-assoc (refused number place) f g = refl
 then-assoc (found a next) f g = refl
+
+-- the place past a record that was judged good
+pub past-record : {s : List ℕ} {owed : Owed} {at next : ℕ} {x : Record} → Judged s owed at x next → next ≡ pastRecord at x
+past-record {at = at} {x = x} j = j .span .long ∙ ap (λ z. at + z) (length-record x)
 
 -- one child, then the rest
 pub next-child : {known : Known} {product at inner at' : ℕ} {P : Construct → ℕ → Type 0} {q : Parsed} {x : Reading Construct}

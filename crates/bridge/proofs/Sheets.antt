@@ -1,18 +1,18 @@
 -- A whole sheet: what the code reports of it is what document 01 says of its bytes.
 use Prim.Native.Nat.{ℕ, zero, suc, _+_, _≤_}
-use mathlib.Core.Path.{_≡_, refl, sym, ap, ap₂, subst}
+use mathlib.Core.Path.{_≡_, refl, sym, ap, ap₂, subst, _∙_}
 use mathlib.Core.Bool.{Bool, true, false}
 use mathlib.Core.List.{List, [], _∷_, _++_, append-nil}
 use mathlib.Core.Option.{Option, some, none}
 use lib.ListN.{length, drop}
 use lib.Seq.{append-snoc}
 use lib.Dec.{ltb, eqb}
+use borrow.Author.Tests.{eq-eqb, ne-eqb}
 use native.Mathlib.Omega.{arith}
 use Rattle.meaning.specs.Tree.{Routine, Sheet}
-use Rattle.meaning.specs.Format.{pick, Record, field, of, sheetRows, InRange, within, rangesOf, inRanges}
+use Rattle.meaning.specs.Format.{pick, Record, field, of, sheetRows, InRange, rangesOf}
 use Rattle.meaning.specs.Judgement.{Reading, Reader, found, andThen, refuse, sheet, routinesAt, sheetAt}
-use Rattle.meaning.specs.Answer.{endedOf, tooBig, Verdict, accepted, refused, sized, judgement, told, stored, partIn}
-use Rattle.meaning.proofs.Laws.{pick-true, within-is}
+use Rattle.meaning.specs.Answer.{pastRecord, endedOf, tooBig, Verdict, accepted, refused, sized, judgement, told, stored, partIn}
 use Rattle.demands.proofs.Found.{Found, not-read, was-read}
 use Rattle.demands.proofs.Records.{Judged, judged-good, sheet-is}
 use Rattle.records.specs.declared.Cursor.{Cursor}
@@ -24,9 +24,11 @@ use Rattle.reader.specs.declared.Report.{Report}
 use Rattle.reader.specs.declared.Answer.the-variants.{Accepted}
 use Rattle.reader.specs.Reader.{onHead, onParsed, noBounds, boundsWith, runFrom, runWith, refusal, verdictOf, routinesOf, sheetOf}
 use Rattle.reader.specs.Said.{saidOf, storedOf, partSaid}
-use Rattle.bridge.proofs.Agree.{Over, ConstructLaw}
-use Rattle.bridge.proofs.Routines.{over-none, over-some, past-record, Fits, Alike, routine-refused, plain-routine, done-routine, routine-law}
-use Rattle.bridge.proofs.More.{sheetWith, more}
+use Rattle.bridge.proofs.Agree.{Over, Agrees, Same, both-refused, read-plain, read-done}
+use Rattle.bridge.proofs.Marks.{first-most}
+use Rattle.bridge.proofs.Readers.{past-record}
+use Rattle.bridge.proofs.More.{asLoop, Long, sheetWith, more}
+use Rattle.bridge.proofs.Routines.{routine-long, routine-law}
 use Rattle.bridge.proofs.Held.{knownTo, finds, Holds, holds-none, holds-more}
 
 -- what a report says of a verdict: the answer; on acceptance the bounds; the part of the routine that was asked for
@@ -60,12 +62,12 @@ module _ (s : List ℕ) (number edition : ℕ) where
       by-values : (i : Option ℕ) → tooBig (endedOf (sheetWith edition rs)) ≡ i → Over i (run .over) →
           Reports s number (pick (eqb (run .over) 0) (acceptance b run) (refusal (length s) 12 (run .over) b)) (sized (sheetWith edition rs) i)
       by-values none p x =
-          rw (over-none x) (record {
+          rw (eq-eqb (run .over) 0 x) (record {
             said = ap (λ z. accepted z) (d .last p);
             kept = λ _ _ table. ap₂ (λ xs n. xs ++ drop n table) (d .values p) (d .many);
             part = sym (d .part);
           })
-      by-values (some place) p x = rw (over-some x, x .0) (refusal-law s number 12 place b)
+      by-values (some place) p x = rw (ne-eqb (run .over) 0 (λ e. omega arith), x .0) (refusal-law s number 12 place b)
 
       by-place : (t : Bool) →
           Reports s number (pick t (refusal (length s) 11 (run .at .at) b) (pick (eqb (run .over) 0) (acceptance b run) (refusal (length s) 12 (run .over) b)))
@@ -87,43 +89,44 @@ module _ (s : List ℕ) (number edition : ℕ) where
       (rs : List Routine) (b : Bounds) (run : Run) → Holds s number edition rs b run → b .count + n ≤ 64 →
       Reports s number (routinesOf n s number b run) (verdictWith rs (routinesAt n s (b .count + 1) (run .at .at)))
 
-  module _ (construct-law : ConstructLaw) where
-    routines-step : (n : ℕ) → RoutinesLaw n → RoutinesLaw (suc n)
-    unfolding routinesOf routinesAt boundsWith runWith
-    routines-step n law rs b run d few =
-        let p = d .place in
-        by-routine (routine-law construct-law (knownTo b) s (b .values) (b .count) (b .count + 1) refl (finds b) (run .at) (omega arith))
-      where
-        later : Reader (List Routine)
-        later = routinesAt n s (b .count + 1 + 1)
+  routines-step : (n : ℕ) → RoutinesLaw n → RoutinesLaw (suc n)
+  unfolding routinesOf routinesAt boundsWith runWith
+  routines-step n law rs b run d few =
+      let p = d .place in
+      by-routine (routine-long s (b .count) (b .count + 1) refl (run .at .at))
+      (routine-law s (b .count) (b .count + 1) refl (knownTo b) (b .values) (finds b) (d .small) (run .at) (omega arith))
+    where
+      later : Reader (List Routine)
+      later = routinesAt n s (b .count + 1 + 1)
 
-        onward : ℕ → ℕ → Cursor → Report
-        onward v o next = routinesOf n s number (boundsWith b v) (runWith run (b .count + 1) number v o next)
+      onward : ℕ → ℕ → Cursor → Report
+      onward v o next = routinesOf n s number (boundsWith b v) (runWith run (b .count + 1) number v o next)
 
-        one-more : {r : Routine} {past v o : ℕ} {next : Cursor} → Fits (knownTo b) (run .at .at) r past v o next →
-            Reports s number (onward v o next) (verdictWith rs (after r (later past)))
-        one-more {r} {v = v} {o = o} {next = next} f =
-            rw (← f .reached)
-            (subst (Reports s number (onward v o next)) (regroup rs r (later (next .at))) (law _ _ _ (holds-more s number edition d (omega arith) f) (omega arith)))
+      one-more : {r : Routine} {past v o e m : ℕ} {next : Cursor} → Long (run .at .at) r past →
+          Agrees (knownTo b) 0 (run .at .at) (asLoop r) past v o e m next → Reports s number (onward v o next) (verdictWith rs (after r (later past)))
+      one-more {r} {v = v} {o = o} {next = next} long a =
+          rw (← a .reached)
+          (subst (Reports s number (onward v o next)) (regroup rs r (later (next .at))) (law _ _ _ (holds-more s number edition d (omega arith) a long) (omega arith)))
 
-        by-routine : {q : Parsed} {g : Reading Routine} → Alike (knownTo b) (run .at .at) q g →
-            Reports s number (onParsed q (λ k p. refusal (length s) k p b) (λ v o e m next. onward v o next))
-            (verdictWith rs (andThen g (λ r past. after r (later past))))
-        by-routine (routine-refused {number = k} {place = p}) = refusal-law s number k p b
-        by-routine (plain-routine f) = one-more f
-        by-routine (done-routine f) = one-more f
+      by-routine : {q : Parsed} {g : Reading Routine} → Found (Long (run .at .at)) g →
+          Same (knownTo b) 0 (run .at .at) q (andThen g (λ r. found (asLoop r))) →
+          Reports s number (onParsed q (λ k p. refusal (length s) k p b) (λ v o e m next. onward v o next))
+          (verdictWith rs (andThen g (λ r past. after r (later past))))
+      by-routine (not-read {number = k} {place = p} n) both-refused = refusal-law s number k p b
+      by-routine (was-read long) (read-plain a) = one-more long a
+      by-routine (was-read long) (read-done a) = one-more long a
 
-    routines-law : (n : ℕ) → RoutinesLaw n
-    unfolding routinesOf routinesAt
-    routines-law zero = λ rs b run d few. rw append-nil (verdict-law rs b run d)
-    routines-law (suc n) = routines-step n (routines-law n)
+  routines-law : (n : ℕ) → RoutinesLaw n
+  unfolding routinesOf routinesAt
+  routines-law zero = λ rs b run d few. rw append-nil (verdict-law rs b run d)
+  routines-law (suc n) = routines-step n (routines-law n)
 
 -- the sheet record tells of at most 64 routines
 few-routines : (edition many : ℕ) → InRange sheetRows (of 100 (edition ∷ many ∷ [])) → many ≤ 64
-unfolding rangesOf inRanges
-few-routines edition many range = within-is _ many (pick-true _ true (pick-true (within _ edition) _ range .1) .0) .1
+unfolding rangesOf
+few-routines edition many range = first-most _ _ many _ (first-most _ _ edition _ range .1) .0
 
-module _ (construct-law : ConstructLaw) (s : List ℕ) (number : ℕ) where
+module _ (s : List ℕ) (number : ℕ) where
   read-sheet : {j : Reading Record} → Found (Judged s sheet 0) j →
       Reports s number (onHead (headOf j) (λ k p. refusal (length s) k p noBounds) (λ r. routinesOf (r .second) s number noBounds (runFrom (length s) (r .next))))
       (judgement (andThen j (λ x next. andThen (routinesAt (field x 1) s 1 next) (λ rs past. whole s (field x 0) rs past))))
@@ -132,8 +135,8 @@ module _ (construct-law : ConstructLaw) (s : List ℕ) (number : ℕ) where
   read-sheet (was-read {a = x} {past = next} j) =
       let same = sheet-is x (j .kind) (j .range) in
       let few = few-routines (field x 0) (field x 1) (subst (InRange sheetRows) (sym same) (j .range)) in
-      let none-read = holds-none s number (field x 0) (record { at = next }) (past-record j _ same) in
-      routines-law s number (field x 0) construct-law (field x 1) [] _ _ none-read (omega arith)
+      let none-read = holds-none s number (field x 0) (record { at = next }) (past-record j ∙ ap (pastRecord 0) (sym same)) in
+      routines-law s number (field x 0) (field x 1) [] _ _ none-read (omega arith)
 
   pub sheet-law : Reports s number (sheetOf s number) (judgement (sheetAt s 0))
   unfolding sheetOf sheetAt

@@ -1,14 +1,16 @@
 -- The routine part of an accepted sheet is the bytes of that routine; any other is empty, at the sheet's end.
 use Prim.Native.Nat.{ℕ, zero, suc, _+_, _-_, _<_, _≤_}
 use mathlib.Core.Path.{_≡_, refl, sym, ap, _∙_}
+use mathlib.Core.Bool.{Bool, true, false}
 use mathlib.Core.List.{List, [], _∷_, _++_, append-assoc, append-nil}
 use lib.ListN.{length, getD, take, drop, length-append}
 use lib.Seq.{take-suc, split-at, take-at, drop-at}
-use borrow.Author.Tests.{lt-ltb, le-ltb}
+use lib.Dec.{ltb}
+use borrow.Author.Tests.{ltb-true, lt-ltb, le-ltb}
 use native.Mathlib.Omega.{arith}
 use native.Mathlib.Nat.{lt-of-not-le}
-use Rattle.meaning.specs.Tree.{Routine, Sheet}
-use Rattle.meaning.specs.Format.{sheetRecord, recordBytes, routineBytes, routinesBytes, bytesOf}
+use Rattle.meaning.specs.Tree.{Routine, Sheet, sequence, end}
+use Rattle.meaning.specs.Format.{pick, sheetRecord, recordBytes, routineBytes, routinesBytes, bytesOf}
 use Rattle.meaning.specs.Answer.{Verdict, accepted, refused, outcome, emptyPart, routinePlace, partIn, partOf, routinePart}
 use Rattle.meaning.proofs.Laws.{length-record}
 use Rattle.demands.proofs.Span.{AreBytes}
@@ -66,3 +68,40 @@ no-part s number none =
     go (accepted t) zero none = refl
     go (accepted t) (suc i) none = let h = lt-of-not-le (none t refl (omega arith)) in rw (le-ltb i (length (t .routines)) (omega arith))
     go (refused n p) k none = refl
+
+-- a part lies in the sheet
+nobody : Routine
+nobody = record { organisation = 0; body = sequence end }
+
+between : (s : List ℕ) → AreBytes s → (t : Sheet) → outcome s ≡ accepted t → (i : ℕ) → i < length (t .routines) →
+    (routinePlace t i ≤ routinePlace t (suc i)) × (routinePlace t (suc i) ≤ length s)
+unfolding bytesOf
+between s are t e i h =
+    let rs = t .routines in
+    let before = routinesBytes (take i rs) in
+    let r = routineBytes (getD rs i nobody) in
+    let behind = routinesBytes (drop (suc i) rs) in
+    let all = ap length (accepted-good s t e .same are) in
+    let a = length-append (recordBytes (sheetRecord t)) (routinesBytes rs) in
+    let b = length-record (sheetRecord t) in
+    let c = long rs i nobody h in
+    let d = ap length (split rs i nobody h) in
+    let f = length-append before (r ++ behind) in
+    let g = length-append r behind in
+    (omega arith, omega arith)
+
+pub part-inside : (s : List ℕ) → AreBytes s → (number : ℕ) → (partOf s number .start ≤ partOf s number .stop) × (partOf s number .stop ≤ length s)
+unfolding partOf
+part-inside s are number = go (outcome s) refl number
+  where
+    go : (v : Verdict Sheet) → outcome s ≡ v → (k : ℕ) → (partIn s v k .start ≤ partIn s v k .stop) × (partIn s v k .stop ≤ length s)
+    go (accepted t) e zero = (omega arith, omega arith)
+    go (accepted t) e (suc i) = by (ltb i (length (t .routines))) refl
+      where
+        by : (x : Bool) → ltb i (length (t .routines)) ≡ x →
+            (pick x (record { start = routinePlace t i; stop = routinePlace t (suc i) }) (emptyPart s) .start
+            ≤ pick x (record { start = routinePlace t i; stop = routinePlace t (suc i) }) (emptyPart s) .stop)
+            × (pick x (record { start = routinePlace t i; stop = routinePlace t (suc i) }) (emptyPart s) .stop ≤ length s)
+        by true u = between s are t e i (ltb-true i (length (t .routines)) u)
+        by false u = (omega arith, omega arith)
+    go (refused n p) e k = (omega arith, omega arith)

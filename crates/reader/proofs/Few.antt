@@ -48,6 +48,7 @@ few-verdict long b run h = go (ltb (run .at .at) long) (eqb (run .over) 0)
   where
     accepted : Report
     accepted = record { answer = Accepted (run .last); bounds = b; start = run .start; end = run .end }
+
     go : (extra fine : Bool) → Few (pick extra (refusal long 11 (run .at .at) b) (pick fine accepted (refusal long 12 (run .over) b)))
     go true fine = few-refusal long 11 (run .at .at) b h
     go false true = record { few = h }

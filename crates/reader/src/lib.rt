@@ -171,17 +171,53 @@ fn ways_of(kind: u64, first: u64, second: u64, standing: u64, product: u64) -> W
     match kind {
         3 => {
             let others = at_most(2, standing);
-            Ways { lead: lead_of(standing), third: others, others, branches: 0, inner: product }
+            Ways {
+                lead: lead_of(standing),
+                third: others,
+                others,
+                branches: 0,
+                inner: product,
+            }
         }
         4 => {
             if standing == 0 {
-                return Ways { lead: 0, third: 0, others: 0, branches: 0, inner: product };
+                return Ways {
+                    lead: 0,
+                    third: 0,
+                    others: 0,
+                    branches: 0,
+                    inner: product,
+                };
             }
-            Ways { lead: 0, third: 3, others: 3, branches: first, inner: product }
+            Ways {
+                lead: 0,
+                third: 3,
+                others: 3,
+                branches: first,
+                inner: product,
+            }
         }
-        5 => Ways { lead: 0, third: body_of(second, standing), others: 0, branches: 0, inner: inner_of(first, second, product) },
-        6 => Ways { lead: body_of(second, standing), third: 0, others: 0, branches: 0, inner: inner_of(first, second, product) },
-        _ => Ways { lead: 0, third: 0, others: 0, branches: 0, inner: 0 },
+        5 => Ways {
+            lead: 0,
+            third: body_of(second, standing),
+            others: 0,
+            branches: 0,
+            inner: inner_of(first, second, product),
+        },
+        6 => Ways {
+            lead: body_of(second, standing),
+            third: 0,
+            others: 0,
+            branches: 0,
+            inner: inner_of(first, second, product),
+        },
+        _ => Ways {
+            lead: 0,
+            third: 0,
+            others: 0,
+            branches: 0,
+            inner: 0,
+        },
     }
 }
 
@@ -232,7 +268,13 @@ impl Tally {
     fn none() -> Tally
         ensures { λ r. ⌜ r ≡ noTally ⌝ }
     {
-        Tally { sum: 0, top: 0, extra: 0, mark: 0, over: 0 }
+        Tally {
+            sum: 0,
+            top: 0,
+            extra: 0,
+            mark: 0,
+            over: 0,
+        }
     }
 
     // One child more, with a value and nothing else to tell.
@@ -297,22 +339,54 @@ fn ended(value: u64, over: usize, extra: u64, mark: u64, start: usize, next: Cur
     ensures { λ r. ⌜ r ≡ endedOf value over extra mark start next ⌝ }
 {
     if over != 0 {
-        return Parsed::Done(Part { value: 0, over, extra, mark, next });
+        return Parsed::Done(Part {
+            value: 0,
+            over,
+            extra,
+            mark,
+            next,
+        });
     }
     if 1099511627775 < value {
-        return Parsed::Done(Part { value: 0, over: start, extra, mark, next });
+        return Parsed::Done(Part {
+            value: 0,
+            over: start,
+            extra,
+            mark,
+            next,
+        });
     }
     if extra != 0 {
-        return Parsed::Done(Part { value, over: 0, extra, mark, next });
+        return Parsed::Done(Part {
+            value,
+            over: 0,
+            extra,
+            mark,
+            next,
+        });
     }
     if mark != 0 {
-        return Parsed::Done(Part { value, over: 0, extra, mark, next });
+        return Parsed::Done(Part {
+            value,
+            over: 0,
+            extra,
+            mark,
+            next,
+        });
     }
     Parsed::Plain(value, next)
 }
 
 // A record ends when its last child has ended. A scope pays what its markers add; any other record hands it on.
-fn close(kind: u64, first: u64, second: u64, t: Tally, more: u64, start: usize, next: Cursor) -> Parsed
+fn close(
+    kind: u64,
+    first: u64,
+    second: u64,
+    t: Tally,
+    more: u64,
+    start: usize,
+    next: Cursor,
+) -> Parsed
     requires { ⌜ (t .sum ≤ heaviestSum) × (t .top ≤ 1099511627775) × (t .extra ≤ valueCap) ⌝ }
     requires { ⌜ (first ≤ 4294967295) × (more ≤ valueCap) ⌝ }
     ensures { λ r. ⌜ r ≡ closeOf kind first second t more start next ⌝ }
@@ -326,7 +400,17 @@ fn close(kind: u64, first: u64, second: u64, t: Tally, more: u64, start: usize, 
 }
 
 // One construct, with the list that it owns. marks keeps the marked branches of the alternatives that are open, so many of them.
-fn construct(s: &[u8], c: Cursor, bounds: &[u64; 64], own: u64, left: u64, marks: &mut [u64], held: usize, standing: u64, product: u64) -> Parsed
+fn construct(
+    s: &[u8],
+    c: Cursor,
+    bounds: &[u64; 64],
+    own: u64,
+    left: u64,
+    marks: &mut [u64],
+    held: usize,
+    standing: u64,
+    product: u64,
+) -> Parsed
     requires { ⌜ Lent (now s) (now bounds) (now marks) own product held (c .at) ⌝ }
     ensures { λ r. ⌜ r ≡ constructOf left (now (s .entry)) (now (bounds .entry)) own standing product c ⌝ }
     ensures { λ r. ⌜ Tells (length (now (s .entry))) (c .at) r ⌝ }
@@ -334,7 +418,14 @@ fn construct(s: &[u8], c: Cursor, bounds: &[u64; 64], own: u64, left: u64, marks
     ensures { λ r. ⌜ length (now (marks .exit)) ≡ length (now (marks .entry)) ⌝ }
 {
     let start = c.at;
-    match c.record(s, Owed::Construct { own, left, standing }) {
+    match c.record(
+        s,
+        Owed::Construct {
+            own,
+            left,
+            standing,
+        },
+    ) {
         Head::Refused(number, place) => Parsed::Refused(number, place),
         Head::Good(r) => {
             let kind = r.kind;
@@ -345,12 +436,33 @@ fn construct(s: &[u8], c: Cursor, bounds: &[u64; 64], own: u64, left: u64, marks
                     let called = (r.first - 1) as usize;
                     Parsed::Plain(bounds[called], next)
                 }
-                9 => Parsed::Done(Part { value: r.second, over: 0, extra: 0, mark: r.first + 1, next }),
+                9 => Parsed::Done(Part {
+                    value: r.second,
+                    over: 0,
+                    extra: 0,
+                    mark: r.first + 1,
+                    next,
+                }),
                 _ => {
                     if r.children == 0 {
                         return Parsed::Plain(0, next);
                     }
-                    list(s, next, start, kind, r.first, r.second, r.children, bounds, own, left - 1, marks, held, standing, product)
+                    list(
+                        s,
+                        next,
+                        start,
+                        kind,
+                        r.first,
+                        r.second,
+                        r.children,
+                        bounds,
+                        own,
+                        left - 1,
+                        marks,
+                        held,
+                        standing,
+                        product,
+                    )
                 }
             }
         }
@@ -358,7 +470,22 @@ fn construct(s: &[u8], c: Cursor, bounds: &[u64; 64], own: u64, left: u64, marks
 }
 
 // The n constructs that a record owns, and the record's end.
-fn list(s: &[u8], c: Cursor, start: usize, kind: u64, first: u64, second: u64, n: u64, bounds: &[u64; 64], own: u64, left: u64, marks: &mut [u64], base: usize, standing: u64, product: u64) -> Parsed
+fn list(
+    s: &[u8],
+    c: Cursor,
+    start: usize,
+    kind: u64,
+    first: u64,
+    second: u64,
+    n: u64,
+    bounds: &[u64; 64],
+    own: u64,
+    left: u64,
+    marks: &mut [u64],
+    base: usize,
+    standing: u64,
+    product: u64,
+) -> Parsed
     requires { ⌜ Lent (now s) (now bounds) (now marks) own product base (c .at) ⌝ }
     requires { ⌜ Owns kind first n ⌝ }
     requires { ⌜ (start + 8 ≤ c .at) × (c .at ≤ length (now s)) ⌝ }
@@ -410,7 +537,22 @@ fn routine(s: &[u8], c: Cursor, bounds: &[u64; 64], own: u64, marks: &mut [u64])
         Head::Refused(number, place) => Parsed::Refused(number, place),
         Head::Good(r) => {
             let next = r.next;
-            list(s, next, start, 7, r.first, 0, 1, bounds, own, 24, marks, 0, 0, 0)
+            list(
+                s,
+                next,
+                start,
+                7,
+                r.first,
+                0,
+                1,
+                bounds,
+                own,
+                24,
+                marks,
+                0,
+                0,
+                0,
+            )
         }
     }
 }
@@ -419,7 +561,10 @@ impl Bounds {
     fn none() -> Bounds
         ensures { λ r. ⌜ r ≡ noBounds ⌝ }
     {
-        Bounds { values: [0u64; 64], count: 0 }
+        Bounds {
+            values: [0u64; 64],
+            count: 0,
+        }
     }
 }
 
@@ -428,7 +573,13 @@ impl Run {
     fn from(long: usize, c: Cursor) -> Run
         ensures { λ r. ⌜ r ≡ runFrom long c ⌝ }
     {
-        Run { last: 0, over: 0, start: long, end: long, at: c }
+        Run {
+            last: 0,
+            over: 0,
+            start: long,
+            end: long,
+            at: c,
+        }
     }
 
     // One routine more; where it is the one asked for, its places.
@@ -450,7 +601,12 @@ impl Run {
 fn refused(long: usize, number: u64, place: usize, bounds: Bounds) -> Report
     ensures { λ r. ⌜ r ≡ refusal long number place bounds ⌝ }
 {
-    Report { answer: Answer::Refused(number, place), bounds, start: long, end: long }
+    Report {
+        answer: Answer::Refused(number, place),
+        bounds,
+        start: long,
+        end: long,
+    }
 }
 
 // EXTRA, then TOO BIG, then the last routine's bound.
@@ -464,7 +620,12 @@ fn verdict(long: usize, bounds: Bounds, run: Run) -> Report
     if run.over != 0 {
         return refused(long, 12, run.over, bounds);
     }
-    Report { answer: Answer::Accepted(run.last), bounds, start: run.start, end: run.end }
+    Report {
+        answer: Answer::Accepted(run.last),
+        bounds,
+        start: run.start,
+        end: run.end,
+    }
 }
 
 // The n routines of a sheet, one after another, each with the bounds of those before.

@@ -1,0 +1,76 @@
+// The calculator: the bounds of a sheet's routines or its refusal, and the part of the sheet that a routine is.
+use reader::Answer;
+use reader::Bounds;
+ghost use mathlib.Core.Path.{_≡_};
+ghost use Prim.Native.Nat.{_≤_};
+ghost use lib.ListN.{length};
+ghost use Rattle.meaning.specs.Answer.{answer, tableAfter, partOf, routinePart};
+ghost use Rattle.reader.specs.Said.{saidOf, storedOf};
+ghost use Rattle.calculator.specs.Promises.{isAccepted, partAt};
+
+// Where the records of a routine start and end.
+pub struct Places {
+    pub start: usize,
+    pub end: usize,
+}
+
+fn is_accepted(answer: Answer) -> bool
+    ensures { λ r. ⌜ r ≡ isAccepted answer ⌝ }
+{
+    match answer {
+        Answer::Accepted(_) => true,
+        Answer::Refused(_, _) => false,
+    }
+}
+
+// The bounds into the lent table, at acceptance.
+fn copy_out(b: Bounds, table: &mut [u64])
+    requires { ⌜ (b .count ≤ 64) × (64 ≤ length (now table)) ⌝ }
+    ensures { λ _. ⌜ now (table .exit) ≡ storedOf b (now (table .entry)) ⌝ }
+{
+    let n = b.count as usize;
+    let mut i: usize = 0;
+    while i < n {
+        table[i] = b.values[i];
+        i += 1;
+    }
+}
+
+// The answer to a sheet; on acceptance the table holds the bounds of its routines.
+pub fn maxt(sheet: &[u8], table: &mut [u64]) -> Answer
+    ensures { λ r. ⌜ saidOf r ≡ answer (now (sheet .entry)) (length (now (table .entry))) ⌝ }
+    ensures { λ _. ⌜ now (table .exit) ≡ tableAfter (now (sheet .entry)) (now (table .entry)) ⌝ }
+{
+    if table.len() < 64 {
+        return Answer::Refused(1, 0);
+    }
+    let report = reader::read(sheet, 0);
+    let answer = report.answer;
+    if is_accepted(answer) {
+        let b = report.bounds;
+        copy_out(b, table);
+        return answer;
+    }
+    answer
+}
+
+// Where a routine's records start and end; the sheet's end for both where there is no such routine.
+pub fn routine_places(sheet: &[u8], number: u64) -> Places
+    ensures { λ r. ⌜ partAt r ≡ partOf (now (sheet .entry)) number ⌝ }
+{
+    let report = reader::read(sheet, number);
+    Places {
+        start: report.start,
+        end: report.end,
+    }
+}
+
+// A routine's records as a part of the sheet.
+pub fn routine_records(sheet: &[u8], number: u64) -> &[u8]
+    ensures { λ r. ⌜ now r ≡ routinePart (now (sheet .entry)) number ⌝ }
+{
+    let places = routine_places(sheet, number);
+    let start = places.start;
+    let end = places.end;
+    &sheet[start..end]
+}
