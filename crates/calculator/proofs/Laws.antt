@@ -1,8 +1,8 @@
 -- From what the reading of a sheet reports to what the calculator promises.
 use Prim.Native.Nat.{ℕ, suc, _+_, _-_, _≤_, _<_}
-use mathlib.Core.Path.{_≡_, refl, sym, ap, _∙_}
+use mathlib.Core.Path.{_≡_, refl, sym, _∙_}
 use mathlib.Core.Bool.{true, false, false≢true}
-use mathlib.Core.List.{List, _∷_, _++_, append-assoc}
+use mathlib.Core.List.{List, _++_, append-assoc}
 use lib.ListN.{length, getD, set, take, drop, length-take}
 use lib.Seq.{drop-cons, set-at, take-suc}
 use borrow.Author.Tests.{lt-ltb, le-ltb}
@@ -45,7 +45,7 @@ refused-by : (a : Answer) → isAccepted a ≡ false → (s table : List ℕ) �
 refused-by (Accepted bound) e s table said = absurd (false≢true (sym e))
 refused-by (Refused number place) e s table said = none-stored (outcome s) table said
 
-module _ (s table : List ℕ) (room : 64 ≤ length table) (report : Report) (reported : Reported s 0 report) where
+module _ {s : List ℕ} (table : List ℕ) (room : 64 ≤ length table) {report : Report} (reported : Reported s 0 report) where
   pub refuses : isAccepted (report .answer) ≡ false → (saidOf (report .answer) ≡ answer s (length table)) × (table ≡ tableAfter s table)
   unfolding answer tableAfter
   refuses e = rw (le-ltb (length table) 64 room) (reported .said, refused-by (report .answer) e s table (reported .said))
@@ -55,7 +55,7 @@ module _ (s table : List ℕ) (room : 64 ≤ length table) (report : Report) (re
   unfolding answer tableAfter
   accepts e f = rw (le-ltb (length table) 64 room) (reported .said, f ∙ reported .kept _ (accepted-with (report .answer) e) table)
 
-module _ (s : List ℕ) (number : ℕ) (p : Places) (same : partAt p ≡ partOf s number) where
+module _ (s : List ℕ) (number : ℕ) {p : Places} (same : partAt p ≡ partOf s number) where
   pub inside : AreBytes s → (p .start ≤ p .end) × (p .end ≤ length s)
   inside are = rw (← same) at (part-inside s are number)
 
