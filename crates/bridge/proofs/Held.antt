@@ -1,24 +1,24 @@
 -- What the code holds after any number of routines is what document 01 says of the sheet of these routines.
-use Prim.Native.Nat.{ℕ, zero, suc, _+_, _-_, _≤_, _<_}
+use Prim.Native.Nat.{ℕ, zero, suc, _+_, _-_, _<_}
 use mathlib.Core.Path.{_≡_, refl, sym, ap, ap₂, _∙_}
 use mathlib.Core.Bool.{Bool, true, false}
 use mathlib.Core.List.{List, [], _∷_, _++_}
 use mathlib.Core.Option.{Option, none}
-use lib.ListN.{length, getD, take, set, length-set}
-use lib.Seq.{length-take-le, take-suc-set, getD-take, getD-set-same, getD-set-other}
+use lib.ListN.{length, take, set, length-set}
+use lib.Seq.{length-take-le, take-suc-set, getD-take}
 use lib.Dec.{eqb}
-use borrow.Author.Tests.{le-ltb, eqb-true, eqb-false}
+use borrow.Author.Tests.{le-ltb}
 use native.Mathlib.Omega.{arith}
 use native.Mathlib.Numerals.{add-one}
 use Rattle.meaning.specs.Tree.{Routine}
 use Rattle.meaning.specs.Format.{pick, routinesBytes}
 use Rattle.meaning.specs.Value.{Known, value, bounds, nothing, boundsOf, taskBound}
-use Rattle.meaning.specs.Answer.{valueLimit, ended, endedRoutines, endedOf, tooBig, accepted, partIn}
+use Rattle.meaning.specs.Answer.{ended, endedRoutines, endedOf, tooBig, accepted, partIn}
 use Rattle.records.specs.declared.Cursor.{Cursor}
 use Rattle.reader.specs.declared.Bounds.{Bounds}
 use Rattle.reader.specs.declared.Run.{Run}
 use Rattle.reader.specs.Reader.{noBounds, boundsWith, runFrom, runWith}
-use Rattle.reader.proofs.Under.{no-bounds-small}
+use Rattle.reader.proofs.Under.{set-small, none-small}
 use Rattle.bridge.proofs.Agree.{Over, Agrees, Finds, Small}
 use Rattle.bridge.proofs.Ends.{also, also-none, over-also}
 use Rattle.bridge.proofs.More.{asLoop, Long, placeAfter, sheetWith, more, length-more, place-more, bounds-more, too-big-more, task-more, part-more}
@@ -49,7 +49,7 @@ module _ (s : List ℕ) (number edition : ℕ) where
 
   pub holds-none : (c : Cursor) → c .at ≡ 12 → Holds [] noBounds (runFrom (length s) c)
   unfolding noBounds runFrom routinesBytes endedRoutines tooBig bounds
-  holds-none c e = record { place = e; many = refl; room = refl; small = no-bounds-small; over = refl; values = λ _. refl; last = λ _. refl; part = none-asked number }
+  holds-none c e = record { place = e; many = refl; room = refl; small = none-small 64; over = refl; values = λ _. refl; last = λ _. refl; part = none-asked number }
     where
       none-asked : (k : ℕ) → partIn s (accepted (sheetWith edition [])) k ≡ record { start = length s; stop = length s }
       none-asked zero = refl
@@ -73,7 +73,7 @@ module _ (s : List ℕ) (number edition : ℕ) where
       place = place;
       many = (let n = length-more r rs in let k = d .many in omega arith);
       room = length-set (b .values) (b .count) v ∙ d .room;
-      small = small;
+      small = set-small (b .values) (b .count) v (d .small) (f .small);
       over = rw big (over-also (bigIn rs) _ (run .over) o (d .over) (λ h. agrees h .over));
       values = values;
       last = last;
@@ -85,13 +85,6 @@ module _ (s : List ℕ) (number edition : ℕ) where
 
         big : bigIn (more r rs) ≡ also (bigIn rs) (tooBig (ended known (placeAfter rs) (asLoop r)))
         big = too-big-more r rs nothing 12
-
-        small : Small (set (b .values) (b .count) v)
-        small i = go (eqb i (b .count)) refl
-          where
-            go : (t : Bool) → eqb i (b .count) ≡ t → getD (set (b .values) (b .count) v) i 0 ≤ valueLimit
-            go true p = let room = d .room in rw (eqb-true i (b .count) p, getD-set-same (b .values) (b .count) v 0 (omega arith)) (f .small)
-            go false p = rw (getD-set-other (b .values) (b .count) i v 0 (eqb-false i (b .count) p)) (d .small i)
 
         -- no record is too big, so none was before
         before : bigIn (more r rs) ≡ none → (bigIn rs ≡ none) × (v ≡ value known (asLoop r))

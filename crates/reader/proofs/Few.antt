@@ -1,12 +1,10 @@
 -- A reading holds at most 64 bounds.
 use Prim.Native.Nat.{ℕ, zero, suc, _+_, _≤_}
 use mathlib.Core.Path.{_≡_, refl}
-use mathlib.Core.Bool.{Bool, true, false}
 use mathlib.Core.List.{List}
 use lib.Dec.{ltb, eqb}
 use lib.ListN.{length}
 use native.Mathlib.Omega.{arith}
-use Rattle.meaning.specs.Format.{pick}
 use Rattle.records.specs.declared.Cursor.{Cursor}
 use Rattle.records.specs.declared.Read.{Read}
 use Rattle.records.specs.declared.Head.{Head}
@@ -18,15 +16,12 @@ use Rattle.reader.specs.declared.Parsed.the-variants.{Plain, Done, Refus
 use Rattle.reader.specs.declared.Bounds.{Bounds}
 use Rattle.reader.specs.declared.Run.{Run}
 use Rattle.reader.specs.declared.Report.{Report}
-use Rattle.reader.specs.declared.Answer.the-variants.{Accepted}
-use Rattle.reader.specs.Reader.{recordOf, onHead, onParsed, routineOf, noBounds, boundsWith, runFrom, runWith, refusal, verdictOf, routinesOf, sheetOf, readOf}
+use Rattle.reader.specs.Reader.{recordOf, onHead, onParsed, routineOf, noBounds, boundsWith, runFrom, runWith}
+use Rattle.reader.specs.Reader.{refusal, verdictOf, routinesOf, sheetOf, readOf}
+use Rattle.reader.proofs.Laws.{picked}
 
 pub record Few (r : Report) : Type 0 where
   pub few : r .bounds .count ≤ 64
-
-few-pick : {a b : Report} (t : Bool) → Few a → Few b → Few (pick t a b)
-few-pick true h k = h
-few-pick false h k = k
 
 few-parsed : (x : Parsed) (g : ℕ → ℕ → Report) (f : ℕ → ℕ → ℕ → ℕ → Cursor → Report) → ((k p : ℕ) → Few (g k p)) →
     ((v o e m : ℕ) (next : Cursor) → Few (f v o e m next)) → Few (onParsed x g f)
@@ -34,7 +29,8 @@ few-parsed (Plain v next) g f h k = k v 0 0 0 next
 few-parsed (Done p) g f h k = k (p .value) (p .over) (p .extra) (p .mark) (p .next)
 few-parsed (Refused number place) g f h k = h number place
 
-few-head : (x : Head) (g : ℕ → ℕ → Report) (f : Read → Report) → ((k p : ℕ) → Few (g k p)) → ((r : Read) → x ≡ head.Good r → Few (f r)) → Few (onHead x g f)
+few-head : (x : Head) (g : ℕ → ℕ → Report) (f : Read → Report) → ((k p : ℕ) → Few (g k p)) → ((r : Read) → x ≡ head.Good r → Few (f r)) →
+    Few (onHead x g f)
 few-head (head.Refused number place) g f h k = h number place
 few-head (head.Good r) g f h k = k r refl
 
@@ -44,15 +40,9 @@ few-refusal long k p b h = record { few = h }
 
 few-verdict : (long : ℕ) (b : Bounds) (run : Run) → b .count ≤ 64 → Few (verdictOf long b run)
 unfolding verdictOf
-few-verdict long b run h = go (ltb (run .at .at) long) (eqb (run .over) 0)
-  where
-    accepted : Report
-    accepted = record { answer = Accepted (run .last); bounds = b; start = run .start; end = run .end }
-
-    go : (extra fine : Bool) → Few (pick extra (refusal long 11 (run .at .at) b) (pick fine accepted (refusal long 12 (run .over) b)))
-    go true fine = few-refusal long 11 (run .at .at) b h
-    go false true = record { few = h }
-    go false false = few-refusal long 12 (run .over) b h
+few-verdict long b run h =
+    picked Few (ltb (run .at .at) long) (few-refusal long 11 (run .at .at) b h) (
+    picked Few (eqb (run .over) 0) (record { few = h }) (few-refusal long 12 (run .over) b h))
 
 few-routines : (n : ℕ) (s : List ℕ) (number : ℕ) (b : Bounds) (run : Run) → b .count + n ≤ 64 → Few (routinesOf n s number b run)
 unfolding routinesOf boundsWith
@@ -69,7 +59,7 @@ pub few-read : (s : List ℕ) (number : ℕ) → Few (readOf s number)
 unfolding readOf sheetOf
 few-read s number =
     let z = none-few in
-    few-pick (ltb 60000 (length s)) (few-refusal (length s) 2 0 noBounds (omega arith)) (
+    picked Few (ltb 60000 (length s)) (few-refusal (length s) 2 0 noBounds (omega arith)) (
     few-head (recordOf s Sheet (record { at = 0 })) _ _ (λ k p. few-refusal (length s) k p noBounds (omega arith)) (λ r e.
     let h = (sheet-fine s e) .few in
     few-routines (r .second) s number noBounds (runFrom (length s) (r .next)) (omega arith)))

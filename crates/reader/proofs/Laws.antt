@@ -1,8 +1,8 @@
--- Laws of what the private functions on values come to: how far each sum can grow, and one child more.
-use Prim.Native.Nat.{ℕ, suc, _+_, _-_, _*_, _/_, _%_, _≤_, _<_, min, max}
-use mathlib.Core.Path.{_≡_, refl, sym, ap, _∙_}
+-- Laws of what the private functions on values come to: how far each sum can grow, one child more, and the marked branches kept.
+use Prim.Native.Nat.{ℕ, _+_, _-_, _*_, _/_, _%_, _≤_, _<_, min, max}
+use mathlib.Core.Path.{_≡_, refl, sym}
 use mathlib.Core.Bool.{Bool, true, false}
-use mathlib.Core.List.{List, [], _∷_, _++_}
+use mathlib.Core.List.{List, [], _∷_}
 use lib.Dec.{eqb}
 use lib.ListN.{length, take, drop, getD, set, drop-of-length-le, length-set, length-append, length-take}
 use lib.Seq.{take-suc-set, drop-cons}
@@ -13,6 +13,17 @@ use native.Mathlib.Numerals.{add-one}
 use Rattle.meaning.specs.Format.{pick}
 use Rattle.reader.specs.declared.Tally.{Tally}
 use Rattle.reader.specs.Tallies.{valueCap, chargeOf, chargesOf, isLoop, counted, isBranch, withOf, keptOf, heaviest, heaviestSum, Counts, Held}
+
+-- what holds of both holds of either
+pub picked : {A : Type 0} {a b : A} (P : A → Type 0) (t : Bool) → P a → P b → P (pick t a b)
+picked P true h k = h
+picked P false h k = k
+
+pub pick-most : {a b most : ℕ} (t : Bool) → a ≤ most → b ≤ most → pick t a b ≤ most
+pick-most {most = most} = picked (λ x. x ≤ most)
+
+pick-same : (t : Bool) (a : ℕ) → pick t a a ≡ a
+pick-same t a = picked (λ x. x ≡ a) t refl refl
 
 -- products stay in 64 bits
 pub charge-small : {passes excess : ℕ} → passes ≤ 1000000 → excess ≤ 17592186044415 → passes * excess ≤ 17592186044415000000
@@ -45,7 +56,8 @@ unfolding counted
 child-small kind count i v h small = go (eqb kind 5) (eqb kind 6) (eqb i 1) (eqb i 2) (h .loop)
   where
     go : (five six one two : Bool) → (pick five true six ≡ true → count ≤ 1000000) →
-        pick five (pick one (v + v * count) (pick two (v * count) v)) (pick six (pick two v (v * count)) v) ≤ pick (pick five true six) 1099512727286627775 1099511627775
+        pick five (pick one (v + v * count) (pick two (v * count) v)) (pick six (pick two v (v * count)) v)
+        ≤ pick (pick five true six) 1099512727286627775 1099511627775
     go true six true two k = let x = rounds-small small (k refl) in omega arith
     go true six false true k = let x = rounds-small small (k refl) in omega arith
     go true six false false k = omega arith
@@ -54,11 +66,7 @@ child-small kind count i v h small = go (eqb kind 5) (eqb kind 6) (eqb i 1) (eqb
     go false false one two k = omega arith
 
 pub some-heavier : (kind : ℕ) → 1099511627775 ≤ heaviest kind
-some-heavier kind = go (isLoop kind)
-  where
-    go : (t : Bool) → 1099511627775 ≤ pick t 1099512727286627775 1099511627775
-    go true = omega arith
-    go false = omega arith
+some-heavier kind = picked (λ x. 1099511627775 ≤ x) (isLoop kind) (omega arith) (omega arith)
 
 -- n children add no more than the heaviest n
 pub fewer-small : (i n kind : ℕ) → i ≤ n → n * heaviest kind ≤ heaviestSum → i * heaviest kind ≤ heaviestSum
@@ -74,23 +82,7 @@ pub branch-more : (kind count i : ℕ) (t : Tally) (v o e m : ℕ) → isBranch 
       over = pick (eqb (t .over) 0) o (t .over);
     }
 unfolding withOf
-branch-more kind count i t v o e m h = rw h (go (eqb m 0))
-  where
-    go : (x : Bool) → _≡_ {A = Tally} (record {
-      sum = t .sum;
-      top = pick x (max (t .top) v) (t .top);
-      extra = min valueCap (t .extra + e);
-      mark = pick x (t .mark) (t .mark);
-      over = pick (eqb (t .over) 0) o (t .over);
-    }) (record {
-      sum = t .sum;
-      top = pick x (max (t .top) v) (t .top);
-      extra = min valueCap (t .extra + e);
-      mark = t .mark;
-      over = pick (eqb (t .over) 0) o (t .over);
-    })
-    go true = refl
-    go false = refl
+branch-more kind count i t v o e m h = rw (h, pick-same)
 
 pub child-more : (kind count i : ℕ) (t : Tally) (v o e m : ℕ) → isBranch kind i ≡ false →
     withOf kind count i t v o e m ≡ record {
@@ -107,16 +99,14 @@ next-heavier : (i h : ℕ) → (i + 1) * h ≡ i * h + h
 next-heavier i h = omega arith
 
 -- what is held after one child more
-pub held-more : {kind i : ℕ} {t u : Tally} → Held kind i t → u .sum ≤ t .sum + heaviest kind → u .top ≤ 1099511627775 → u .extra ≤ valueCap → u .mark ≤ 1000001 →
-    Held kind (i + 1) u
-held-more {kind} {i} h sum top extra mark = record { sum = (let n = next-heavier i (heaviest kind) in let s = h .sum in omega arith); top = top; extra = extra; mark = mark }
+pub held-more : {kind i : ℕ} {t u : Tally} → Held kind i t → u .sum ≤ t .sum + heaviest kind → u .top ≤ 1099511627775 → u .extra ≤ valueCap →
+    u .mark ≤ 1000001 → Held kind (i + 1) u
+held-more {kind} {i} h sum top extra mark =
+    let n = next-heavier i (heaviest kind) in
+    record { sum = omega (arith, h .sum); top = top; extra = extra; mark = mark }
 
 pub sum-fits : (kind i : ℕ) {t : Tally} → Held kind i t → (i + 1) * heaviest kind ≤ heaviestSum → t .sum + heaviest kind ≤ heaviestSum
-sum-fits kind i h k = let n = next-heavier i (heaviest kind) in let s = h .sum in omega arith
-
-pub pick-most : {a b most : ℕ} (t : Bool) → a ≤ most → b ≤ most → pick t a b ≤ most
-pick-most true h k = h
-pick-most false h k = k
+sum-fits kind i h k = omega (arith, next-heavier i (heaviest kind), h .sum)
 
 -- of a child that is told plainly nothing is added but its value
 pub plain-extra : {extra : ℕ} → extra ≤ valueCap → min valueCap (extra + 0) ≡ extra
@@ -128,9 +118,6 @@ plain-over over = go (eqb over 0) refl
     go : (t : Bool) → eqb over 0 ≡ t → pick t 0 over ≡ over
     go true e = sym (eqb-true over 0 e)
     go false e = refl
-
-pub counted-both : (kind count i v : ℕ) {r : ℕ} → r ≡ counted kind count i v → Counts kind count → v ≤ 1099511627775 → (r ≡ counted kind count i v) × (r ≤ heaviest kind)
-counted-both kind count i v e h small = (e, rw e (child-small kind count i v h small))
 
 -- The list `marks` up to `held` after a child: as it was, or with one marked branch more.
 module _ (kind i value mark held : ℕ) (marks : List ℕ) where

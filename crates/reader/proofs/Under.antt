@@ -1,7 +1,6 @@
 -- Laws of what `routine` and `routines` come to, and what holds whenever the loop of `routines` is at its test.
-use Prim.Native.Nat.{ℕ, zero, suc, _+_, _-_, _*_, _≤_, _<_}
-use mathlib.Core.Path.{_≡_, refl, sym, ap, _∙_}
-use mathlib.Core.Bool.{false≢true}
+use Prim.Native.Nat.{ℕ, zero, suc, _+_, _-_, _≤_, _<_}
+use mathlib.Core.Path.{_≡_, refl, sym, _∙_}
 use mathlib.Core.List.{List, [], _∷_}
 use lib.ListN.{length, getD, set, replicate}
 use native.Mathlib.Omega.{arith}
@@ -10,16 +9,19 @@ use Rattle.records.specs.declared.Read.{Read}
 use Rattle.records.specs.declared.Head.the-variants as head
 use Rattle.records.specs.declared.Owed.the-variants.{Sheet, Routine}
 use Rattle.reader.specs.declared.Part.{Part}
+use Rattle.reader.specs.declared.Parsed.{Parsed}
 use Rattle.reader.specs.declared.Parsed.the-variants.{Plain, Done, Refused}
 use Rattle.reader.specs.declared.Bounds.{Bounds}
 use Rattle.reader.specs.declared.Run.{Run}
-use Rattle.reader.specs.Tallies.{noTally}
+use Rattle.reader.specs.Tallies.{noTally, Tells}
 use Rattle.reader.specs.Reader.{recordOf, onParsed, ownerOf, listOf, constructOf, routineOf, Owns}
 use Rattle.reader.specs.Reader.{noBounds, boundsWith, runFrom, runWith, refusal, verdictOf, routinesOf, sheetOf}
+use Rattle.reader.proofs.Lists.{no-loop}
+use Rattle.reader.proofs.Tells.{tells-plain, tells-done}
 
 -- a routine owns its body
 pub owns-body : {organisation : ℕ} → organisation ≤ 4294967295 → Owns 7 organisation 1
-owns-body h = record { counts = record { loop = λ e. absurd (false≢true e) }; cost = h; few = omega arith; sum = omega arith }
+owns-body h = record { counts = no-loop refl; cost = h; few = omega arith; sum = omega arith }
 
 module _ (s bounds : List ℕ) (own : ℕ) (c : Cursor) where
   pub routine-refused : {number place : ℕ} → recordOf s Routine c ≡ head.Refused number place → routineOf s bounds own c ≡ Refused number place
@@ -32,21 +34,20 @@ module _ (s bounds : List ℕ) (own : ℕ) (c : Cursor) where
   routine-good e = rw e
 
 -- one bound more is as small as the others
-set-small : (xs : List ℕ) (k v : ℕ) → ((i : ℕ) → getD xs i 0 ≤ 1099511627775) → v ≤ 1099511627775 → (i : ℕ) → getD (set xs k v) i 0 ≤ 1099511627775
+abbrev Small : List ℕ → Type 0
+Small xs = (i : ℕ) → getD xs i 0 ≤ 1099511627775
+
+pub set-small : (xs : List ℕ) (k v : ℕ) → Small xs → v ≤ 1099511627775 → Small (set xs k v)
 set-small [] k v h l i = h i
 set-small (x ∷ xs) zero v h l zero = l
 set-small (x ∷ xs) zero v h l (suc i) = h (suc i)
 set-small (x ∷ xs) (suc k) v h l zero = h 0
 set-small (x ∷ xs) (suc k) v h l (suc i) = set-small xs k v (λ j. h (suc j)) l i
 
-none-small : (n i : ℕ) → getD (replicate n 0) i 0 ≤ 1099511627775
+pub none-small : (n : ℕ) → Small (replicate n 0)
 none-small zero i = omega arith
 none-small (suc n) zero = omega arith
 none-small (suc n) (suc i) = none-small n i
-
-pub no-bounds-small : (i : ℕ) → getD (noBounds .values) i 0 ≤ 1099511627775
-unfolding noBounds
-no-bounds-small i = none-small 64 i
 
 module _ (n : ℕ) (s : List ℕ) (number : ℕ) (b : Bounds) (run : Run) where
   routines-step : b .count < n →
@@ -55,19 +56,6 @@ module _ (n : ℕ) (s : List ℕ) (number : ℕ) (b : Bounds) (run : Run) where
       routinesOf (n - (b .count + 1)) s number (boundsWith b value) (runWith run (b .count + 1) number value over next))
   unfolding routinesOf
   routines-step h = let e : n - b .count ≡ suc (n - (b .count + 1)) = omega arith in rw e
-
-  pub routines-refused : {k p : ℕ} → b .count < n → routineOf s (b .values) (b .count + 1) (run .at) ≡ Refused k p →
-      routinesOf (n - b .count) s number b run ≡ refusal (length s) k p b
-  routines-refused h e = rw (routines-step h, e)
-
-  pub routines-plain : {v : ℕ} {next : Cursor} → b .count < n → routineOf s (b .values) (b .count + 1) (run .at) ≡ Plain v next →
-      routinesOf (n - b .count) s number b run ≡ routinesOf (n - (b .count + 1)) s number (boundsWith b v) (runWith run (b .count + 1) number v 0 next)
-  routines-plain h e = rw (routines-step h, e)
-
-  pub routines-done : {p : Part} → b .count < n → routineOf s (b .values) (b .count + 1) (run .at) ≡ Done p →
-      routinesOf (n - b .count) s number b run
-      ≡ routinesOf (n - (b .count + 1)) s number (boundsWith b (p .value)) (runWith run (b .count + 1) number (p .value) (p .over) (p .next))
-  routines-done h e = rw (routines-step h, e)
 
   pub routines-end : n ≤ b .count → routinesOf (n - b .count) s number b run ≡ verdictOf (length s) b run
   unfolding routinesOf
@@ -83,22 +71,50 @@ module _ (n : ℕ) (s lent : List ℕ) (number : ℕ) (none : Bounds) (first : R
 
   pub under-none : none ≡ noBounds → Under lent none first
   unfolding noBounds
-  under-none e = rw e (let z : n - 0 ≡ n = omega arith in record { same = rw z; few = omega arith; small = no-bounds-small; long = refl })
+  under-none e = rw e (let z : n - 0 ≡ n = omega arith in record { same = rw z; few = omega arith; small = none-small 64; long = refl })
 
-  pub under-more : {marks : List ℕ} (after : List ℕ) {b : Bounds} {run u : Run} (value over : ℕ) (next : Cursor) → Under marks b run → b .count < n →
-      routinesOf (n - b .count) s number b run ≡ routinesOf (n - (b .count + 1)) s number (boundsWith b value) (runWith run (b .count + 1) number value over next) →
-      value ≤ 1099511627775 → length after ≡ length marks → u ≡ runWith run (b .count + 1) number value over next →
-      Under after (record { values = set (b .values) (b .count) value; count = b .count + 1 }) u
+  -- One routine more was read: it came to x, and the marks to those after it.
+  pub record Turn (marks : List ℕ) (b : Bounds) (run : Run) (after : List ℕ) (x : Parsed) : Type 0 where
+    pub under : Under marks b run
+    pub more : b .count < n
+    pub is : routineOf s (b .values) (b .count + 1) (run .at) ≡ x
+    pub tells : Tells (length s) (run .at .at) x
+    pub long : length after ≡ length marks
+
+module _ {n : ℕ} {s lent : List ℕ} {number : ℕ} {none : Bounds} {first : Run} {marks : List ℕ} {b : Bounds} {run : Run} {after : List ℕ} {x : Parsed}
+    (t : Turn n s lent number none first marks b run after x) where
+  pub turn-long : length after ≡ length lent
+  turn-long = t .long ∙ t .under .long
+
+  pub turn-refused : {k p : ℕ} → x ≡ Refused k p → routinesOf n s number none first ≡ refusal (length s) k p b
+  turn-refused e = rw (← t .under .same, routines-step n s number b run (t .more), t .is ∙ e)
+
+  under-more : {u : Run} (value over : ℕ) (next : Cursor) →
+      routinesOf (n - b .count) s number b run
+      ≡ routinesOf (n - (b .count + 1)) s number (boundsWith b value) (runWith run (b .count + 1) number value over next) →
+      value ≤ 1099511627775 → u ≡ runWith run (b .count + 1) number value over next →
+      Under n s lent number none first after (record { values = set (b .values) (b .count) value; count = b .count + 1 }) u
   unfolding boundsWith
-  under-more after {b = b} value over next h l step v as-long e = record {
-    same = rw e (sym step ∙ h .same);
+  under-more value over next step small e = record {
+    same = rw e (sym step ∙ t .under .same);
     few = omega arith;
-    small = set-small (b .values) (b .count) value (h .small) v;
-    long = as-long ∙ h .long;
+    small = set-small (b .values) (b .count) value (t .under .small) small;
+    long = turn-long;
   }
 
+  pub turn-plain : {v : ℕ} {next : Cursor} {u : Run} → x ≡ Plain v next → u ≡ runWith run (b .count + 1) number v 0 next →
+      Under n s lent number none first after (record { values = set (b .values) (b .count) v; count = b .count + 1 }) u
+  turn-plain {v} {next} e f =
+      under-more v 0 next (rw (routines-step n s number b run (t .more), t .is ∙ e)) (tells-plain e (t .tells) .value) f
+
+  pub turn-done : {p : Part} {u : Run} → x ≡ Done p → u ≡ runWith run (b .count + 1) number (p .value) (p .over) (p .next) →
+      Under n s lent number none first after (record { values = set (b .values) (b .count) (p .value); count = b .count + 1 }) u
+  turn-done {p} e f =
+      under-more (p .value) (p .over) (p .next) (rw (routines-step n s number b run (t .more), t .is ∙ e)) (tells-done e (t .tells) .value) f
+
 module _ (s : List ℕ) (number : ℕ) where
-  pub sheet-refused : {k p : ℕ} → recordOf s Sheet (record { at = 0 }) ≡ head.Refused k p → sheetOf s number ≡ refusal (length s) k p noBounds
+  pub sheet-refused : {k p : ℕ} → recordOf s Sheet (record { at = 0 }) ≡ head.Refused k p →
+      sheetOf s number ≡ refusal (length s) k p noBounds
   unfolding sheetOf
   sheet-refused e = rw e
 

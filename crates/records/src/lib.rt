@@ -64,110 +64,46 @@ fn wide(b: u8) -> u64
     b as u64
 }
 
+// A row of the table by its columns, so that each kind is one line.
+fn row(
+    length: u64,
+    least: u64,
+    most: u64,
+    least2: u64,
+    most2: u64,
+    children: u64,
+    listed: bool,
+) -> Form
+    ensures { λ r. ⌜ r ≡ record { length = length; least = least; most = most; least2 = least2; most2 = most2; children = children; listed = listed } ⌝ }
+{
+    Form {
+        length,
+        least,
+        most,
+        least2,
+        most2,
+        children,
+        listed,
+    }
+}
+
 // Lengths, ranges and children by kind. A kind that stands in no row has length 0.
 fn form_of(kind: u64) -> Form
     ensures { λ r. ⌜ r ≡ formOf kind ⌝ }
 {
+    // kind => length, least and most of the first field, least and most of the second, children, listed
     match kind {
-        100 => Form {
-            length: 12,
-            least: 1,
-            most: 1,
-            least2: 1,
-            most2: 64,
-            children: 0,
-            listed: false,
-        },
-        1 => Form {
-            length: 8,
-            least: 0,
-            most: 4294967295,
-            least2: 0,
-            most2: 0,
-            children: 1,
-            listed: false,
-        },
-        2 => Form {
-            length: 8,
-            least: 0,
-            most: 4294967295,
-            least2: 0,
-            most2: 0,
-            children: 0,
-            listed: false,
-        },
-        3 => Form {
-            length: 8,
-            least: 0,
-            most: 1000,
-            least2: 0,
-            most2: 0,
-            children: 0,
-            listed: true,
-        },
-        4 => Form {
-            length: 8,
-            least: 2,
-            most: 256,
-            least2: 0,
-            most2: 0,
-            children: 1,
-            listed: true,
-        },
-        5 => Form {
-            length: 12,
-            least: 0,
-            most: 1000000,
-            least2: 0,
-            most2: 1,
-            children: 4,
-            listed: false,
-        },
-        6 => Form {
-            length: 12,
-            least: 1,
-            most: 1000000,
-            least2: 0,
-            most2: 1,
-            children: 3,
-            listed: false,
-        },
-        7 => Form {
-            length: 8,
-            least: 0,
-            most: 4294967295,
-            least2: 0,
-            most2: 0,
-            children: 1,
-            listed: false,
-        },
-        8 => Form {
-            length: 8,
-            least: 0,
-            most: 4294967295,
-            least2: 0,
-            most2: 0,
-            children: 0,
-            listed: false,
-        },
-        9 => Form {
-            length: 12,
-            least: 0,
-            most: 1000000,
-            least2: 0,
-            most2: 4294967295,
-            children: 0,
-            listed: false,
-        },
-        _ => Form {
-            length: 0,
-            least: 0,
-            most: 0,
-            least2: 0,
-            most2: 0,
-            children: 0,
-            listed: false,
-        },
+        100 => row(12, 1, 1, 1, 64, 0, false),
+        1 => row(8, 0, 4294967295, 0, 0, 1, false),
+        2 => row(8, 0, 4294967295, 0, 0, 0, false),
+        3 => row(8, 0, 1000, 0, 0, 0, true),
+        4 => row(8, 2, 256, 0, 0, 1, true),
+        5 => row(12, 0, 1000000, 0, 1, 4, false),
+        6 => row(12, 1, 1000000, 0, 1, 3, false),
+        7 => row(8, 0, 4294967295, 0, 0, 1, false),
+        8 => row(8, 0, 4294967295, 0, 0, 0, false),
+        9 => row(12, 0, 1000000, 0, 4294967295, 0, false),
+        _ => row(0, 0, 0, 0, 0, 0, false),
     }
 }
 

@@ -1,21 +1,17 @@
+-- `body_of`: the tests on the way pick the case of `bodyOf`.
+use borrow.Author.Tests.{eq-eqb, ne-eqb}
 use Rattle.reader.specs.Ways.{bodyOf}
-use borrow.Author.Tests.{eq-eqb, ne-eqb, lt-ltb, le-ltb}
 use Rattle.reader.proofs.body_of.Statement.{statement}
 use Rattle.reader.proofs.body_of.Tie as tie
-use Rattle.reader.proofs.body_of.Reads as reads
-use Rattle.reader.proofs.body_of.Lts as lts
 
--- src/lib.rt:149:9
 returns : tie.Need-returns
 unfolding bodyOf
 returns c = rw (eq-eqb _ _ (c .if1 .taken))
 
--- src/lib.rt:145:1
 returns-2 : tie.Need-returns-2
 unfolding bodyOf
 returns-2 c = simp (ne-eqb _ _ (c .before .if1 .left), eq-eqb _ _ (c .if2 .taken))
 
--- src/lib.rt:145:1
 returns-3 : tie.Need-returns-3
 unfolding bodyOf
 returns-3 c = simp (ne-eqb _ _ (c .before .if1 .left), ne-eqb _ _ (c .if2 .left))

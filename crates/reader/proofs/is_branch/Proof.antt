@@ -1,14 +1,11 @@
-use borrow.Author.Tests.{eq-eqb, ne-eqb, lt-ltb, le-ltb}
+-- `is_branch`: both sides of the `&&` compute.
+use borrow.Author.Tests.{eq-eqb, ne-eqb}
 use Rattle.reader.proofs.is_branch.Statement.{statement}
 use Rattle.reader.proofs.is_branch.Tie as tie
-use Rattle.reader.proofs.is_branch.Reads as reads
-use Rattle.reader.proofs.is_branch.Lts as lts
 
--- src/lib.rt:225:1
 returns : tie.Need-returns
 returns c = rw (eq-eqb _ _ (c .if1 .taken))
 
--- src/lib.rt:225:1
 returns-2 : tie.Need-returns-2
 returns-2 c = rw (ne-eqb _ _ (c .if1 .left))
 

@@ -1,27 +1,21 @@
-use Rattle.reader.specs.Ways.{leadOf}
-use borrow.Author.Tests.{eq-eqb, ne-eqb, lt-ltb, le-ltb}
+-- `lead_of`: each arm is the case of `leadOf` that its number picks.
+use borrow.Author.Tests.{ne-eqb}
 use borrow.Author.Needs.{needs}
+use Rattle.reader.specs.Ways.{leadOf}
 use Rattle.reader.proofs.lead_of.Statement.{statement}
 use Rattle.reader.proofs.lead_of.Tie as tie
-use Rattle.reader.proofs.lead_of.Reads as reads
-use Rattle.reader.proofs.lead_of.Lts as lts
-use Rattle.reader.proofs.at_most.Reads as at-most-reads
 
--- src/lib.rt:140:14
 at-most-requires : tie.Need-at-most-requires
 at-most-requires c κs = search needs
 
--- src/lib.rt:134:1
 returns : tie.Need-returns
 unfolding leadOf
 returns c = rw (c .match .keys1)
 
--- src/lib.rt:134:1
 returns-2 : tie.Need-returns-2
 unfolding leadOf
 returns-2 c = rw (c .match .keys2)
 
--- src/lib.rt:134:1
 returns-3 : tie.Need-returns-3
 unfolding leadOf
 returns-3 c = rw (c .at-most .ensures) (simp (ne-eqb _ _ (c .before .match .rest .1), ne-eqb _ _ (c .before .match .rest .0 .1)))

@@ -1,11 +1,9 @@
-use Rattle.reader.specs.Reader.{refusal}
+-- `refused` is `refusal` as it computes.
 use mathlib.Core.Path.{refl}
+use Rattle.reader.specs.Reader.{refusal}
 use Rattle.reader.proofs.refused.Statement.{statement}
 use Rattle.reader.proofs.refused.Tie as tie
-use Rattle.reader.proofs.refused.Reads as reads
-use Rattle.reader.proofs.refused.Lts as lts
 
--- src/lib.rt:450:1
 returns : tie.Need-returns
 unfolding refusal
 returns c = refl

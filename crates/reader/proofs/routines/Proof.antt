@@ -1,19 +1,11 @@
-use Rattle.reader.proofs.Under.{Under, under-none, under-more, routines-refused, routines-plain, routines-done, routines-end}
-use Rattle.reader.proofs.Going.{tells-plain, tells-done}
-use borrow.Author.Needs.{needs}
-use mathlib.Core.Path.{refl, sym, _∙_}
-use Prim.Native.Nat.{_-_}
+-- The loop of `routines` keeps `Under`: each routine read is a `Turn`, which hands the bounds and the run on. The measure is what is left of the count.
+use Prim.Native.Nat.{_-_, _<_}
+use mathlib.Core.Path.{sym}
 use native.Mathlib.Omega.{arith}
+use borrow.Author.Needs.{needs}
+use Rattle.reader.proofs.Under.{Under, under-none, routines-end, Turn, turn-long, turn-refused, turn-plain, turn-done}
 use Rattle.reader.proofs.routines.Statement.{statement}
 use Rattle.reader.proofs.routines.Tie as tie
-use Rattle.reader.proofs.routines.Reads as reads
-use Rattle.reader.proofs.routines.Lts as lts
-use Rattle.reader.proofs.Bounds.none.Reads as none-reads
-use Rattle.reader.proofs.Run.from.Reads as from-reads
-use Rattle.reader.proofs.Run.with.Reads as with-reads
-use Rattle.reader.proofs.refused.Reads as refused-reads
-use Rattle.reader.proofs.routine.Reads as routine-reads
-use Rattle.reader.proofs.verdict.Reads as verdict-reads
 
 abbrev Inv-loop : tie.InvT-loop
 Inv-loop s n number marks₀ b₀ run₀ marks b run = Under n s marks₀ number b₀ run₀ marks b run
@@ -21,101 +13,118 @@ Inv-loop s n number marks₀ b₀ run₀ marks b run = Under n s marks₀ number
 abbrev μ-loop : tie.MeasureT-loop
 μ-loop s n number marks₀ b₀ run₀ marks b run = n - b .count
 
--- src/lib.rt:475:17
+-- a routine was read
+abbrev start : tie.After-routine Inv-loop μ-loop → tie.Start Inv-loop μ-loop
+start c = c .before .before .before .before .before .before .before .before .before .before .before
+
+abbrev loop : tie.After-routine Inv-loop μ-loop → tie.At-loop Inv-loop μ-loop
+loop c = c .before .before .before .before .before .before
+
+turn : (c : tie.After-routine Inv-loop μ-loop) →
+    let a = start c .args in
+    let l = loop c .loop in
+    Turn (a .n) (a .s .now) (a .marks .now) (a .number) (loop c .before .before .none .result) (loop c .before .from .result) (l .marks) (l .b) (l .run)
+    (c .routine .last .1 .1 .1 .1 .0) (c .routine .result)
+turn c = record {
+  under = loop c .loop .inv;
+  more = c .before .before .before .before .before .loop-test .taken;
+  is = sym (c .routine .ensures .0);
+  tells = c .routine .ensures .1 .0;
+  long = c .routine .ensures .1 .1;
+}
+
+few : (c : tie.After-routine Inv-loop μ-loop) → loop c .loop .b .count < 64
+few c = omega (arith, start c .pre .0, turn c .more)
+
 none-requires : tie.Need-none-requires Inv-loop μ-loop
 none-requires c κs = search needs
 
--- src/lib.rt:476:9
 from-requires : tie.Need-from-requires Inv-loop μ-loop
 from-requires c κs = search needs
 
--- src/lib.rt:477:5
 loop-holds : tie.Need-loop-holds Inv-loop μ-loop
-loop-holds c = under-none (c .before .before .before .before .args .n) (c .before .before .before .before .args .s .now) (c .before .before .before .before .args .marks .now) (c .before .before .before .before .args .number) (c .before .none .result) (c .from .result) (c .before .none .ensures)
+loop-holds c =
+    let a = c .before .before .before .before .args in
+    under-none (a .n) (a .s .now) (a .marks .now) (a .number) (c .before .none .result) (c .from .result) (c .before .none .ensures)
 
--- src/lib.rt:478:19
 add-own : tie.Need-add-own Inv-loop μ-loop
 add-own c = omega (arith, c .before .before .before .before .before .before .pre .0, c .loop-test .taken)
 
--- src/lib.rt:480:15
 routine-requires : tie.Need-routine-requires Inv-loop μ-loop
-routine-requires c κs = record { small = c .before .before .before .before .before .loop .inv .small; few = omega (arith, c .before .before .before .before .before .before .before .before .before .before .pre .0, c .before .before .before .before .loop-test .taken); passes = omega arith; room = omega (arith, c .before .before .before .before .before .before .before .before .before .before .pre .1, c .before .before .before .before .before .loop .inv .long); kept = omega arith }
+routine-requires c κs =
+    let p = c .before .before .before .before .before .before .before .before .before .before .pre in
+    let inv = c .before .before .before .before .before .loop .inv in
+    record {
+      small = inv .small;
+      few = omega (arith, p .0, c .before .before .before .before .loop-test .taken);
+      passes = omega arith;
+      room = omega (arith, p .1, inv .long);
+      kept = omega arith;
+    }
 
--- src/lib.rt:481:29
 enum-known-k : tie.Need-enum-known-k Inv-loop μ-loop
 enum-known-k c = search needs
 
--- src/lib.rt:482:17
 refused-requires : tie.Need-refused-requires Inv-loop μ-loop
 refused-requires c κs = search needs
 
--- src/lib.rt:482:17
 same-length : tie.Need-same-length Inv-loop μ-loop
-same-length c = c .before .before .before .before .before .before .routine .ensures .1 .1 ∙ c .before .before .before .before .before .before .before .before .before .before .before .before .loop .inv .long
+same-length c = turn-long (turn (c .before .before .before .before .before .before))
 
--- src/lib.rt:482:17
 returns : tie.Need-returns Inv-loop μ-loop
-returns c = rw (c .refused .ensures, ← c .before .before .before .before .before .before .before .before .before .before .before .before .before .from .ensures, ← c .before .before .before .before .before .before .before .before .before .before .before .before .before .before .none .ensures, ← c .before .before .before .before .before .before .before .before .before .before .before .before .loop .inv .same) (sym (routines-refused (c .before .before .before .before .before .before .before .before .before .before .before .before .before .before .before .before .before .args .n) (c .before .before .before .before .before .before .before .before .before .before .before .before .before .before .before .before .before .args .s .now) (c .before .before .before .before .before .before .before .before .before .before .before .before .before .before .before .before .before .args .number) (c .before .before .before .before .before .before .before .before .before .before .before .before .loop .b) (c .before .before .before .before .before .before .before .before .before .before .before .before .loop .run) (c .before .before .before .before .before .before .before .before .before .before .before .loop-test .taken) (sym (c .before .before .before .before .before .before .routine .ensures .0) ∙ c .before .before .k .given .1)))
+returns c =
+    let read = c .before .before .before .before .before .before in
+    let from = loop read .before in
+    rw (c .refused .ensures, ← from .from .ensures, ← from .before .none .ensures) (sym (turn-refused (turn read) (c .before .before .k .given .1)))
 
--- src/lib.rt:484:27
 enum-known-v : tie.Need-enum-known-v Inv-loop μ-loop
 enum-known-v c = search needs
 
--- src/lib.rt:485:17
 with-requires : tie.Need-with-requires Inv-loop μ-loop
 with-requires c κs = search needs
 
--- src/lib.rt:487:17
 mul-b : tie.Need-mul-b Inv-loop μ-loop
-mul-b c = omega (arith, c .before .before .before .before .before .before .before .before .before .before .before .before .before .before .before .before .before .pre .0, c .before .before .before .before .before .before .before .before .before .before .before .loop-test .taken)
+mul-b c = omega (arith, few (c .before .before .before .before .before .before))
 
--- src/lib.rt:487:17
 element-write-b : tie.Need-element-write-b Inv-loop μ-loop
-element-write-b c = omega (arith, c .before .before .before .before .before .before .before .before .before .before .before .before .before .before .before .before .before .pre .0, c .before .before .before .before .before .before .before .before .before .before .before .loop-test .taken)
+element-write-b c = omega (arith, few (c .before .before .before .before .before .before))
 
--- src/lib.rt:477:5
 loop-less : tie.Need-loop-less Inv-loop μ-loop
-loop-less c = omega (arith, c .before .before .before .before .before .before .before .before .before .before .before .loop-test .taken)
+loop-less c = omega (arith, turn (c .before .before .before .before .before .before) .more)
 
--- src/lib.rt:477:5
 loop-again : tie.Need-loop-again Inv-loop μ-loop
-loop-again c = under-more (c .before .before .before .before .before .before .before .before .before .before .before .before .before .before .before .before .before .args .n) (c .before .before .before .before .before .before .before .before .before .before .before .before .before .before .before .before .before .args .s .now) (c .before .before .before .before .before .before .before .before .before .before .before .before .before .before .before .before .before .args .marks .now) (c .before .before .before .before .before .before .before .before .before .before .before .before .before .before .before .before .before .args .number) (c .before .before .before .before .before .before .before .before .before .before .before .before .before .before .none .result) (c .before .before .before .before .before .before .before .before .before .before .before .before .before .from .result) {marks = c .before .before .before .before .before .before .before .before .before .before .before .before .loop .marks} (c .before .before .before .before .before .before .routine .last .1 .1 .1 .1 .0) (c .before .before .v .given .0 .0) 0 (c .before .before .v .given .0 .1 .0) (c .before .before .before .before .before .before .before .before .before .before .before .before .loop .inv) (c .before .before .before .before .before .before .before .before .before .before .before .loop-test .taken) (routines-plain (c .before .before .before .before .before .before .before .before .before .before .before .before .before .before .before .before .before .args .n) (c .before .before .before .before .before .before .before .before .before .before .before .before .before .before .before .before .before .args .s .now) (c .before .before .before .before .before .before .before .before .before .before .before .before .before .before .before .before .before .args .number) (c .before .before .before .before .before .before .before .before .before .before .before .before .loop .b) (c .before .before .before .before .before .before .before .before .before .before .before .before .loop .run) (c .before .before .before .before .before .before .before .before .before .before .before .loop-test .taken) (sym (c .before .before .before .before .before .before .routine .ensures .0) ∙ c .before .before .v .given .1)) (tells-plain (c .before .before .v .given .1) (c .before .before .before .before .before .before .routine .ensures .1 .0) .value) (c .before .before .before .before .before .before .routine .ensures .1 .1) (c .with .ensures)
+loop-again c = turn-plain (turn (c .before .before .before .before .before .before)) (c .before .before .v .given .1) (c .with .ensures)
 
--- src/lib.rt:491:26
 enum-known-p : tie.Need-enum-known-p Inv-loop μ-loop
 enum-known-p c = search needs
 
--- src/lib.rt:493:17
 with-requires-2 : tie.Need-with-requires-2 Inv-loop μ-loop
 with-requires-2 c κs = search needs
 
--- src/lib.rt:495:17
 mul-b-2 : tie.Need-mul-b-2 Inv-loop μ-loop
-mul-b-2 c = omega (arith, c .before .before .before .before .before .before .before .before .before .before .before .before .before .before .before .before .before .before .pre .0, c .before .before .before .before .before .before .before .before .before .before .before .before .loop-test .taken)
+mul-b-2 c = omega (arith, few (c .before .before .before .before .before .before .before))
 
--- src/lib.rt:495:17
 element-write-b-2 : tie.Need-element-write-b-2 Inv-loop μ-loop
-element-write-b-2 c = omega (arith, c .before .before .before .before .before .before .before .before .before .before .before .before .before .before .before .before .before .before .pre .0, c .before .before .before .before .before .before .before .before .before .before .before .before .loop-test .taken)
+element-write-b-2 c = omega (arith, few (c .before .before .before .before .before .before .before))
 
--- src/lib.rt:477:5
 loop-less-2 : tie.Need-loop-less-2 Inv-loop μ-loop
-loop-less-2 c = omega (arith, c .before .before .before .before .before .before .before .before .before .before .before .before .loop-test .taken)
+loop-less-2 c = omega (arith, turn (c .before .before .before .before .before .before .before) .more)
 
--- src/lib.rt:477:5
 loop-again-2 : tie.Need-loop-again-2 Inv-loop μ-loop
-loop-again-2 c = under-more (c .before .before .before .before .before .before .before .before .before .before .before .before .before .before .before .before .before .before .args .n) (c .before .before .before .before .before .before .before .before .before .before .before .before .before .before .before .before .before .before .args .s .now) (c .before .before .before .before .before .before .before .before .before .before .before .before .before .before .before .before .before .before .args .marks .now) (c .before .before .before .before .before .before .before .before .before .before .before .before .before .before .before .before .before .before .args .number) (c .before .before .before .before .before .before .before .before .before .before .before .before .before .before .before .none .result) (c .before .before .before .before .before .before .before .before .before .before .before .before .before .before .from .result) {marks = c .before .before .before .before .before .before .before .before .before .before .before .before .before .loop .marks} (c .before .before .before .before .before .before .before .routine .last .1 .1 .1 .1 .0) (c .before .before .before .p .given .0 .0 .value) (c .before .before .before .p .given .0 .0 .over) (c .before .before .before .p .given .0 .0 .next) (c .before .before .before .before .before .before .before .before .before .before .before .before .before .loop .inv) (c .before .before .before .before .before .before .before .before .before .before .before .before .loop-test .taken) (routines-done (c .before .before .before .before .before .before .before .before .before .before .before .before .before .before .before .before .before .before .args .n) (c .before .before .before .before .before .before .before .before .before .before .before .before .before .before .before .before .before .before .args .s .now) (c .before .before .before .before .before .before .before .before .before .before .before .before .before .before .before .before .before .before .args .number) (c .before .before .before .before .before .before .before .before .before .before .before .before .before .loop .b) (c .before .before .before .before .before .before .before .before .before .before .before .before .before .loop .run) (c .before .before .before .before .before .before .before .before .before .before .before .before .loop-test .taken) (sym (c .before .before .before .before .before .before .before .routine .ensures .0) ∙ c .before .before .before .p .given .1)) (tells-done (c .before .before .before .p .given .1) (c .before .before .before .before .before .before .before .routine .ensures .1 .0) .value) (c .before .before .before .before .before .before .before .routine .ensures .1 .1) (c .with2 .ensures)
+loop-again-2 c = turn-done (turn (c .before .before .before .before .before .before .before)) (c .before .before .before .p .given .1) (c .with2 .ensures)
 
--- src/lib.rt:501:5
 verdict-requires : tie.Need-verdict-requires Inv-loop μ-loop
 verdict-requires c κs = search needs
 
--- src/lib.rt:471:1
 same-length-2 : tie.Need-same-length-2 Inv-loop μ-loop
 same-length-2 c = c .before .before .loop .inv .long
 
--- src/lib.rt:471:1
 returns-2 : tie.Need-returns-2 Inv-loop μ-loop
-returns-2 c = rw (c .verdict .ensures, ← c .before .before .before .from .ensures, ← c .before .before .before .before .none .ensures, ← c .before .before .loop .inv .same) (sym (routines-end (c .before .before .before .before .before .before .before .args .n) (c .before .before .before .before .before .before .before .args .s .now) (c .before .before .before .before .before .before .before .args .number) (c .before .before .loop .b) (c .before .before .loop .run) (c .before .loop-test .left)))
+returns-2 c =
+    let at = c .before .before in
+    let a = at .before .before .before .before .before .args in
+    let end = routines-end (a .n) (a .s .now) (a .number) (at .loop .b) (at .loop .run) (c .before .loop-test .left) in
+    rw (c .verdict .ensures, ← at .before .from .ensures, ← at .before .before .none .ensures, ← at .loop .inv .same) (sym end)
 
 pub routines-spec : {M : Type 1} → statement M
 routines-spec =

@@ -1,25 +1,18 @@
-use Rattle.reader.specs.Reader.{runWith}
-use mathlib.Core.Path.{refl}
+-- `Run::with`: the three choices are those of `runWith`.
 use borrow.Author.Needs.{needs}
+use Rattle.reader.specs.Reader.{runWith}
 use Rattle.reader.proofs.Run.with.Statement.{statement}
 use Rattle.reader.proofs.Run.with.Tie as tie
-use Rattle.reader.proofs.Run.with.Reads as reads
-use Rattle.reader.proofs.Run.with.Lts as lts
-use Rattle.reader.proofs.choose_place.Reads as choose-place-reads
 
--- src/lib.rt:441:19
 choose-place-requires : tie.Need-choose-place-requires
 choose-place-requires c κs = search needs
 
--- src/lib.rt:442:20
 choose-place-requires-2 : tie.Need-choose-place-requires-2
 choose-place-requires-2 c κs = search needs
 
--- src/lib.rt:443:18
 choose-place-requires-3 : tie.Need-choose-place-requires-3
 choose-place-requires-3 c κs = search needs
 
--- src/lib.rt:435:5
 returns : tie.Need-returns
 unfolding runWith
 returns c = rw (c .choose-place3 .ensures, c .before .choose-place2 .ensures, c .before .before .choose-place .ensures)

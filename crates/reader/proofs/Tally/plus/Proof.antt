@@ -1,38 +1,46 @@
-use Rattle.reader.proofs.Laws.{branch-more, child-more, held-more, sum-fits, some-heavier, plain-extra, plain-over}
+-- `Tally::plus` is `withOf` of a child that tells only a value; the sum grows by at most the heaviest child (Laws).
 use mathlib.Core.Path.{_∙_, sym}
 use native.Mathlib.Omega.{arith}
 use borrow.Author.Needs.{needs}
+use Rattle.reader.proofs.Laws.{branch-more, child-more, held-more, sum-fits, some-heavier, plain-extra, plain-over}
 use Rattle.reader.proofs.Tally.plus.Statement.{statement}
 use Rattle.reader.proofs.Tally.plus.Tie as tie
-use Rattle.reader.proofs.Tally.plus.Reads as reads
-use Rattle.reader.proofs.Tally.plus.Lts as lts
-use Rattle.reader.proofs.counted.Reads as counted-reads
-use Rattle.reader.proofs.is_branch.Reads as is-branch-reads
-use Rattle.reader.proofs.larger.Reads as larger-reads
 
--- src/lib.rt:248:12
 is-branch-requires : tie.Need-is-branch-requires
 is-branch-requires c κs = search needs
 
--- src/lib.rt:249:13
 larger-requires : tie.Need-larger-requires
 larger-requires c κs = search needs
 
--- src/lib.rt:250:13
 returns : tie.Need-returns
-returns c = (rw (branch-more (c .before .before .before .args .kind) (c .before .before .before .args .count) (c .before .before .before .args .i) (c .before .before .before .args .self) (c .before .before .before .args .v) 0 0 0 (sym (c .before .before .is-branch .ensures) ∙ c .before .if1 .taken), c .larger .ensures, plain-extra (c .before .before .before .pre .1 .0 .extra), plain-over), held-more (c .before .before .before .pre .1 .0) (omega (arith, some-heavier (c .before .before .before .args .kind))) (omega arith) (c .before .before .before .pre .1 .0 .extra) (c .before .before .before .pre .1 .0 .mark))
+returns c =
+    let start = c .before .before .before in
+    let a = start .args in
+    let h = start .pre .1 .0 in
+    let is = sym (c .before .before .is-branch .ensures) ∙ c .before .if1 .taken in
+    let more = branch-more (a .kind) (a .count) (a .i) (a .self) (a .v) 0 0 0 is in (
+      rw (more, c .larger .ensures, plain-extra (h .extra), plain-over),
+      held-more h (omega (arith, some-heavier (a .kind))) (omega arith) (h .extra) (h .mark),
+    )
 
--- src/lib.rt:252:25
 counted-requires : tie.Need-counted-requires
 counted-requires c κs = (c .before .before .pre .0, c .before .before .pre .1 .1 .1)
 
--- src/lib.rt:252:17
 add-t : tie.Need-add-t
-add-t c = omega (arith, sum-fits _ _ (c .before .before .before .before .pre .1 .0) (c .before .before .before .before .pre .1 .1 .0), c .before .counted .ensures .1)
+add-t c =
+    let p = c .before .before .before .before .pre .1 in
+    omega (arith, sum-fits _ _ (p .0) (p .1 .0), c .before .counted .ensures .1)
 
--- src/lib.rt:239:5
 returns-2 : tie.Need-returns-2
-returns-2 c = (rw (child-more (c .before .before .before .before .args .kind) (c .before .before .before .before .args .count) (c .before .before .before .before .args .i) (c .before .before .before .before .args .self) (c .before .before .before .before .args .v) 0 0 0 (sym (c .before .before .before .is-branch .ensures) ∙ c .before .before .if1 .left), c .before .counted .ensures .0, plain-extra (c .before .before .before .before .pre .1 .0 .extra), plain-over), held-more (c .before .before .before .before .pre .1 .0) (omega (arith, c .before .counted .ensures .1)) (c .before .before .before .before .pre .1 .0 .top) (c .before .before .before .before .pre .1 .0 .extra) (c .before .before .before .before .pre .1 .0 .mark))
+returns-2 c =
+    let start = c .before .before .before .before in
+    let a = start .args in
+    let h = start .pre .1 .0 in
+    let is = sym (c .before .before .before .is-branch .ensures) ∙ c .before .before .if1 .left in
+    let more = child-more (a .kind) (a .count) (a .i) (a .self) (a .v) 0 0 0 is in (
+      rw (more, c .before .counted .ensures .0, plain-extra (h .extra), plain-over),
+      held-more h (omega (arith, c .before .counted .ensures .1)) (h .top) (h .extra) (h .mark),
+    )
 
 pub plus-spec : {M : Type 1} → statement M
 plus-spec =

@@ -1,0 +1,58 @@
+-- What a construct that was read tells: by its two shapes, where its record owns no list, and when the record that owns a list ends.
+use Prim.Native.Nat.{ℕ, _+_, _≤_, min}
+use mathlib.Core.Path.{_≡_, refl, subst}
+use mathlib.Core.Bool.{Bool, true, false}
+use mathlib.Core.List.{List}
+use lib.Dec.{eqb, ltb}
+use lib.ListN.{length}
+use borrow.Author.Tests.{ltb-false}
+use native.Mathlib.Omega.{arith}
+use Rattle.meaning.specs.Format.{pick}
+use Rattle.records.specs.declared.Cursor.{Cursor}
+use Rattle.records.specs.declared.Read.{Read}
+use Rattle.records.proofs.Good.{Fine}
+use Rattle.reader.specs.declared.Part.{Part}
+use Rattle.reader.specs.declared.Parsed.{Parsed}
+use Rattle.reader.specs.declared.Parsed.the-variants.{Plain, Done}
+use Rattle.reader.specs.declared.Tally.{Tally}
+use Rattle.reader.specs.Tallies.{valueCap, part, endedOf, valueOf, closeOf, Told, Tells}
+use Rattle.reader.proofs.Laws.{picked}
+
+-- the two shapes
+pub tells-plain : {long at v : ℕ} {next : Cursor} {x : Parsed} → x ≡ Plain v next → Tells long at x → Told long at v 0 0 next
+tells-plain {long} {at} e h = subst (Tells long at) e h
+
+pub tells-done : {long at : ℕ} {p : Part} {x : Parsed} → x ≡ Done p → Tells long at x → Told long at (p .value) (p .extra) (p .mark) (p .next)
+tells-done {long} {at} e h = subst (Tells long at) e h
+
+-- a good record that owns no list
+pub fine-told : {s : List ℕ} {own left standing at : ℕ} {r : Read} → Fine s own left standing at r → {v m : ℕ} → v ≤ 1099511627775 → m ≤ 1000001 →
+    Told (length s) at v 0 m (r .next)
+fine-told f v m = record { value = v; extra = omega arith; mark = m; past = f .past; inside = f .inside }
+
+-- a record ends
+ended-tells : (long value over extra mark start : ℕ) (next : Cursor) → extra ≤ valueCap → mark ≤ 1000001 → start + 8 ≤ next .at → next .at ≤ long →
+    Tells long start (endedOf value over extra mark start next)
+unfolding endedOf
+ended-tells long value over extra mark start next e m p i = go (eqb over 0) (ltb 1099511627775 value) refl (pick (eqb extra 0) (eqb mark 0) false)
+  where
+    told : {v e m : ℕ} → v ≤ 1099511627775 → e ≤ valueCap → m ≤ 1000001 → Told long start v e m next
+    told v e m = record { value = v; extra = e; mark = m; past = p; inside = i }
+
+    go : (fine big : Bool) → ltb 1099511627775 value ≡ big → (plain : Bool) →
+        Tells long start (pick fine
+        (pick big (Done (part 0 start extra mark next)) (pick plain (Plain value next) (Done (part value 0 extra mark next))))
+        (Done (part 0 over extra mark next)))
+    go false big b plain = told (omega arith) e m
+    go true true b plain = told (omega arith) e m
+    go true false b true = told (ltb-false 1099511627775 value b) (omega arith) (omega arith)
+    go true false b false = told (ltb-false 1099511627775 value b) e m
+
+pub close-tells : (long kind first second : ℕ) (t : Tally) (more start : ℕ) (next : Cursor) → t .mark ≤ 1000001 → start + 8 ≤ next .at → next .at ≤ long →
+    Tells long start (closeOf kind first second t more start next)
+unfolding closeOf
+close-tells long kind first second t more start next m p i =
+    let extra = min valueCap (t .extra + more) in
+    picked (Tells long start) (eqb second 1)
+    (ended-tells long (valueOf kind first t + extra) (t .over) 0 (t .mark) start next (omega arith) m p i)
+    (ended-tells long (valueOf kind first t) (t .over) extra (t .mark) start next (omega arith) m p i)
