@@ -21,7 +21,7 @@ use Rattle.demands.proofs.Records.{a-primitive, a-sequence, an-alternative, a-h
 use Rattle.records.specs.declared.Read.{Read}
 use Rattle.records.specs.Records.{childrenOf, headOf}
 use Rattle.reader.specs.declared.Parsed.the-variants.{Refused}
-use Rattle.reader.specs.Reader.{onHead, ChildReader, ownedOf, constructOf}
+use Rattle.reader.specs.Reader.{onHead, ChildReader, aloneOf, ownedOf, constructOf}
 use Rattle.bridge.proofs.Agree.{standingOf, occurs, markNumber, either, Agrees, Same, both-refused, read-plain, read-done, Finds, Small}
 use Rattle.bridge.proofs.Standings.{judged-alike}
 use Rattle.bridge.proofs.Marks.{first-most}
@@ -47,7 +47,7 @@ module _ (known : Known) (s bounds : List ℕ) (before own : ℕ) (number : own 
       (r : Reach) (lies : occurs r ≡ true) (last : Bool) (product held at : ℕ) (cap : held ≡ min 1000000 product) (place : 1 ≤ at) where
     owned-law : {x : Record} {next : ℕ} → Sort x → Judged s (construct own left r last) at x next →
         Same known product at (ownedOf read bounds at (standingOf r last) held (readOf x next)) (owned g r last x next)
-    unfolding ownedOf childrenOf rangesOf ended value
+    unfolding ownedOf aloneOf childrenOf rangesOf ended value
     owned-law {next = next} (a-primitive cost) j =
         let few = first-most _ _ cost _ (j .range) .0 in
         read-plain (leaf known product at next cost 0 (primitive (record { cost = cost })) refl (omega arith) refl refl refl)

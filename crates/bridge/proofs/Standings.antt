@@ -10,8 +10,7 @@ use native.Mathlib.Nat.{mul-le-mul-right}
 use Rattle.meaning.specs.Format.{pick, Record}
 use Rattle.meaning.specs.Legal.{Reach, mayMark, nowhere, firstChild, laterChild, asBranch, asBody}
 use Rattle.meaning.specs.Judgement.{Reading, construct, refuse, stray, noPlain, judged}
-use Rattle.records.specs.Records.{reachOf, lastOf, owedBy}
-use Rattle.records.specs.declared.Owed.the-variants.{Construct}
+use Rattle.records.specs.Records.{reachOf, lastOf, constructAs}
 use Rattle.reader.specs.Ways.{leadOf, bodyOf, innerOf, ways, waysOf, wayOf}
 use Rattle.bridge.proofs.Agree.{standingOf, occurs}
 
@@ -169,6 +168,6 @@ placed-alike at x good r h last = go (eqb (x .kind) 9)
     go false = refl
 
 pub judged-alike : (s : List ℕ) (own left at : ℕ) (r : Reach) → occurs r ≡ true → (last : Bool) →
-    judged s (owedBy (Construct own left (standingOf r last))) at ≡ judged s (construct own left r last) at
+    judged s (constructAs own left (standingOf r last)) at ≡ judged s (construct own left r last) at
 unfolding judged
 judged-alike s own left at r h last = simp (placed-alike)

@@ -9,7 +9,7 @@ use Rattle.records.specs.declared.Cursor.{Cursor}
 use Rattle.records.specs.declared.Read.{Read}
 use Rattle.records.specs.declared.Head.{Head}
 use Rattle.records.specs.declared.Head.the-variants as head
-use Rattle.records.specs.declared.Owed.the-variants.{Sheet}
+use Rattle.meaning.specs.Judgement.{sheet}
 use Rattle.records.proofs.Good.{sheet-fine}
 use Rattle.reader.specs.declared.Parsed.{Parsed}
 use Rattle.reader.specs.declared.Parsed.the-variants.{Plain, Done, Refused}
@@ -60,6 +60,6 @@ unfolding readOf sheetOf
 few-read s number =
     let z = none-few in
     picked Few (ltb 60000 (length s)) (few-refusal (length s) 2 0 noBounds (omega arith)) (
-    few-head (recordOf s Sheet (record { at = 0 })) _ _ (λ k p. few-refusal (length s) k p noBounds (omega arith)) (λ r e.
+    few-head (recordOf s sheet (record { at = 0 })) _ _ (λ k p. few-refusal (length s) k p noBounds (omega arith)) (λ r e.
     let h = (sheet-fine s e) .few in
     few-routines (r .second) s number noBounds (runFrom (length s) (r .next)) (omega arith)))

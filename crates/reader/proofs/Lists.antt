@@ -3,83 +3,68 @@ use Prim.Native.Nat.{ℕ, zero, suc, _+_, _-_, _≤_, _<_}
 use mathlib.Core.Path.{_≡_, refl, sym, _∙_}
 use mathlib.Core.Bool.{false, false≢true}
 use mathlib.Core.List.{List, []}
-use lib.ListN.{length, getD}
-use borrow.Author.Tests.{ne-eqb}
+use lib.ListN.{length}
 use native.Mathlib.Omega.{arith}
 use native.Mathlib.Numerals.{sub-one}
 use Rattle.records.specs.declared.Cursor.{Cursor}
 use Rattle.records.specs.declared.Read.{Read}
 use Rattle.records.specs.declared.Head.the-variants as head
-use Rattle.records.specs.declared.Owed.the-variants.{Construct}
+use Rattle.records.specs.Records.{constructAs}
 use Rattle.records.proofs.Good.{Sorted, a-primitive, a-sequence, an-alternative, a-head-loop, a-tail-loop, a-timed-loop, a-call, a-marker}
 use Rattle.reader.specs.declared.Part.{Part}
 use Rattle.reader.specs.declared.Parsed.the-variants.{Plain, Done, Refused}
 use Rattle.reader.specs.declared.Tally.{Tally}
-use Rattle.reader.specs.Tallies.{chargesOf, noTally, withOf, keptOf, part, endedOf, closeOf, isLoop, Counts}
-use Rattle.reader.specs.Reader.{recordOf, onParsed, Owner, ownerOf, ChildReader, childOf, listOf, ownedOf, constructOf, Owns}
+use Rattle.reader.specs.Tallies.{chargesOf, noTally, withOf, keptOf, endedOf, closeOf, isLoop, Counts}
+use Rattle.reader.specs.Reader.{recordOf, onParsed, aloneOf, Alone, Owner, ownerOf, ChildReader, childOf, listOf, ownedOf, constructOf, Owns}
 
 -- one depth of a construct
 pub construct-refused : (left : ℕ) (s bounds : List ℕ) (own standing product : ℕ) (c : Cursor) {number place : ℕ} →
-    recordOf s (Construct own left standing) c ≡ head.Refused number place → constructOf left s bounds own standing product c ≡ Refused number place
+    recordOf s (constructAs own left standing) c ≡ head.Refused number place → constructOf left s bounds own standing product c ≡ Refused number place
 unfolding constructOf
 construct-refused zero s bounds own standing product c e = rw e
 construct-refused (suc left) s bounds own standing product c e = rw e
 
 pub construct-good : (left : ℕ) (s bounds : List ℕ) (own standing product : ℕ) (c : Cursor) {r : Read} → 1 ≤ left →
-    recordOf s (Construct own left standing) c ≡ head.Good r →
+    recordOf s (constructAs own left standing) c ≡ head.Good r →
     constructOf left s bounds own standing product c ≡ ownedOf (constructOf (left - 1) s bounds own) bounds (c .at) standing product r
 unfolding constructOf
 construct-good zero s bounds own standing product c h e = absurd (omega arith)
 construct-good (suc left) s bounds own standing product c h e = rw (e, sub-one (suc left))
 
--- a kind that owns a list
-pub record Others (kind : ℕ) : Type 0 where
-  pub two : kind ≡ 2 → ⊥
-  pub eight : kind ≡ 8 → ⊥
-  pub nine : kind ≡ 9 → ⊥
-
--- what a record owns: the kinds that own no list, and the others
-module _ (read : ChildReader) (bounds : List ℕ) (start standing product : ℕ) (r : Read) where
-  pub owned-primitive : r .kind ≡ 2 → ownedOf read bounds start standing product r ≡ Plain (r .first) (r .next)
-  unfolding ownedOf
-  owned-primitive e = rw e
-
-  pub owned-call : r .kind ≡ 8 → ownedOf read bounds start standing product r ≡ Plain (getD bounds (r .first - 1) 0) (r .next)
-  unfolding ownedOf
-  owned-call e = rw e
-
-  pub owned-marker : r .kind ≡ 9 → ownedOf read bounds start standing product r ≡ Done (part (r .second) 0 0 (r .first + 1) (r .next))
-  unfolding ownedOf
-  owned-marker e = rw e
-
-  pub owned-list : Others (r .kind) →
-      ownedOf read bounds start standing product r
-      ≡ listOf read (ownerOf (r .kind) (r .first) (r .second) start standing product) (r .children) 0 (r .next) noTally []
-  unfolding ownedOf
-  owned-list k = rw (ne-eqb (r .kind) 2 (k .two), ne-eqb (r .kind) 8 (k .eight), ne-eqb (r .kind) 9 (k .nine))
-
 -- no limit on what is counted once
 pub no-loop : {kind count : ℕ} → isLoop kind ≡ false → Counts kind count
 no-loop e = record { loop = λ f. absurd (false≢true (sym e ∙ f)) }
 
--- a record that owns a list owns as many as it should, the sums of its children fit, and only a sequence can be empty
-pub listed : {own : ℕ} {r : Read} → Sorted own r → Others (r .kind) →
-    Owns (r .kind) (r .first) (r .children) × (r .children ≡ 0 → (r .kind ≡ 3) × (r .second ≡ 0))
-listed (a-primitive h) k = absurd (k .two refl)
-listed (a-sequence h) k = (record { counts = no-loop refl; cost = omega arith; few = omega arith; sum = omega arith }, λ e. (refl, refl))
-listed (an-alternative g h) k = (record { counts = no-loop refl; cost = omega arith; few = omega arith; sum = omega arith }, λ e. absurd (omega arith))
-listed (a-head-loop h m) k = (record { counts = record { loop = λ e. h }; cost = omega arith; few = omega arith; sum = omega arith }, λ e. absurd (omega arith))
-listed (a-tail-loop g h m) k = (record { counts = record { loop = λ e. h }; cost = omega arith; few = omega arith; sum = omega arith }, λ e. absurd (omega arith))
-listed (a-timed-loop h) k = (record { counts = no-loop refl; cost = h; few = omega arith; sum = omega arith }, λ e. absurd (omega arith))
-listed (a-call g h) k = absurd (k .eight refl)
-listed (a-marker g h) k = absurd (k .nine refl)
+module _ (read : ChildReader) (bounds : List ℕ) (start standing product : ℕ) where
+  -- a record without children; of those that own a list only a sequence can be empty, and then its value is 0
+  pub owned-alone : {own : ℕ} {r : Read} → Sorted own r → r .children ≡ 0 → ownedOf read bounds start standing product r ≡ aloneOf bounds r
+  unfolding ownedOf aloneOf listOf chargesOf closeOf endedOf
+  owned-alone (a-primitive h) e = refl
+  owned-alone (a-sequence h) e = rw e
+  owned-alone (an-alternative g h) e = absurd (omega arith)
+  owned-alone (a-head-loop h m) e = absurd (omega arith)
+  owned-alone (a-tail-loop g h m) e = absurd (omega arith)
+  owned-alone (a-timed-loop h) e = absurd (omega arith)
+  owned-alone (a-call g h) e = refl
+  owned-alone (a-marker g h) e = refl
 
-pub owned-none : (read : ChildReader) (bounds : List ℕ) (start standing product : ℕ) {own : ℕ} {r : Read} → Sorted own r → Others (r .kind) →
-    r .children ≡ 0 → ownedOf read bounds start standing product r ≡ Plain 0 (r .next)
-unfolding listOf chargesOf closeOf endedOf
-owned-none read bounds start standing product {r = r} sorted k e =
-    let (three, no-scope) = listed sorted k .1 e in
-    owned-list read bounds start standing product r k ∙ rw (e, three, no-scope)
+  -- a record with children: its list, of which the sums fit
+  abbrev Listed : Read → Type 0
+  Listed r =
+      (ownedOf read bounds start standing product r
+      ≡ listOf read (ownerOf (r .kind) (r .first) (r .second) start standing product) (r .children) 0 (r .next) noTally [])
+      × Owns (r .kind) (r .first) (r .children)
+
+  pub owned-list : {own : ℕ} {r : Read} → Sorted own r → (r .children ≡ 0 → ⊥) → Listed r
+  unfolding ownedOf
+  owned-list (a-primitive h) k = absurd (k refl)
+  owned-list (a-sequence h) k = (refl, record { counts = no-loop refl; cost = omega arith; few = omega arith; sum = omega arith })
+  owned-list (an-alternative g h) k = (refl, record { counts = no-loop refl; cost = omega arith; few = omega arith; sum = omega arith })
+  owned-list (a-head-loop h m) k = (refl, record { counts = record { loop = λ e. h }; cost = omega arith; few = omega arith; sum = omega arith })
+  owned-list (a-tail-loop g h m) k = (refl, record { counts = record { loop = λ e. h }; cost = omega arith; few = omega arith; sum = omega arith })
+  owned-list (a-timed-loop h) k = (refl, record { counts = no-loop refl; cost = h; few = omega arith; sum = omega arith })
+  owned-list (a-call g h) k = absurd (k refl)
+  owned-list (a-marker g h) k = absurd (k refl)
 
 -- a list from its ith construct on
 module _ (read : ChildReader) (o : Owner) (n i : ℕ) (c : Cursor) (t : Tally) (marks : List ℕ) where
@@ -111,21 +96,16 @@ module _ (read : ChildReader) (o : Owner) (n i : ℕ) (c : Cursor) (t : Tally) (
   unfolding listOf
   list-end h = let e : n - i ≡ 0 = omega arith in rw e
 
--- the ranges of the fields of the kinds that own no list
-pub record Ranges (own : ℕ) (r : Read) : Type 0 where
-  pub cost : r .kind ≡ 2 → r .first ≤ 4294967295
-  pub called : r .kind ≡ 8 → (1 ≤ r .first) × (r .first < own)
-  pub marker : r .kind ≡ 9 → (r .first ≤ 1000000) × (r .second ≤ 4294967295)
+-- what is required of a record without children, by its kind
+no-ranges : {r : Read} → r .kind ≤ 7 → Alone r
+no-ranges m = record { called = λ e. absurd (omega arith); marked = λ e. absurd (omega arith) }
 
-no-ranges : {own : ℕ} {r : Read} → 3 ≤ r .kind → r .kind ≤ 7 → Ranges own r
-no-ranges l m = record { cost = λ e. absurd (omega arith); called = λ e. absurd (omega arith); marker = λ e. absurd (omega arith) }
-
-pub ranges : {own : ℕ} {r : Read} → Sorted own r → Ranges own r
-ranges (a-primitive h) = record { cost = λ e. h; called = λ e. absurd (omega arith); marker = λ e. absurd (omega arith) }
-ranges (a-sequence h) = no-ranges (omega arith) (omega arith)
-ranges (an-alternative g h) = no-ranges (omega arith) (omega arith)
-ranges (a-head-loop h m) = no-ranges (omega arith) (omega arith)
-ranges (a-tail-loop g h m) = no-ranges (omega arith) (omega arith)
-ranges (a-timed-loop h) = no-ranges (omega arith) (omega arith)
-ranges (a-call g h) = record { cost = λ e. absurd (omega arith); called = λ e. (g, h); marker = λ e. absurd (omega arith) }
-ranges (a-marker g h) = record { cost = λ e. absurd (omega arith); called = λ e. absurd (omega arith); marker = λ e. (g, h) }
+pub alone-ranges : {own : ℕ} {r : Read} → Sorted own r → own ≤ 64 → Alone r
+alone-ranges (a-primitive h) few = no-ranges (omega arith)
+alone-ranges (a-sequence h) few = no-ranges (omega arith)
+alone-ranges (an-alternative g h) few = no-ranges (omega arith)
+alone-ranges (a-head-loop h m) few = no-ranges (omega arith)
+alone-ranges (a-tail-loop g h m) few = no-ranges (omega arith)
+alone-ranges (a-timed-loop h) few = no-ranges (omega arith)
+alone-ranges (a-call g h) few = record { called = λ e. (g, omega arith); marked = λ e. absurd (omega arith) }
+alone-ranges (a-marker g h) few = record { called = λ e. absurd (omega arith); marked = λ e. g }

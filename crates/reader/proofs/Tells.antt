@@ -1,21 +1,22 @@
 -- What a construct that was read tells: by its two shapes, where its record owns no list, and when the record that owns a list ends.
-use Prim.Native.Nat.{ℕ, _+_, _≤_, min}
+use Prim.Native.Nat.{ℕ, _+_, _-_, _≤_, min}
 use mathlib.Core.Path.{_≡_, refl, subst}
 use mathlib.Core.Bool.{Bool, true, false}
 use mathlib.Core.List.{List}
 use lib.Dec.{eqb, ltb}
-use lib.ListN.{length}
+use lib.ListN.{getD}
 use borrow.Author.Tests.{ltb-false}
 use native.Mathlib.Omega.{arith}
 use Rattle.meaning.specs.Format.{pick}
 use Rattle.records.specs.declared.Cursor.{Cursor}
 use Rattle.records.specs.declared.Read.{Read}
-use Rattle.records.proofs.Good.{Fine}
+use Rattle.records.proofs.Good.{Sorted, a-primitive, a-sequence, an-alternative, a-head-loop, a-tail-loop, a-timed-loop, a-call, a-marker}
 use Rattle.reader.specs.declared.Part.{Part}
 use Rattle.reader.specs.declared.Parsed.{Parsed}
 use Rattle.reader.specs.declared.Parsed.the-variants.{Plain, Done}
 use Rattle.reader.specs.declared.Tally.{Tally}
 use Rattle.reader.specs.Tallies.{valueCap, part, endedOf, valueOf, closeOf, Told, Tells}
+use Rattle.reader.specs.Reader.{aloneOf}
 use Rattle.reader.proofs.Laws.{picked}
 
 -- the two shapes
@@ -25,10 +26,21 @@ tells-plain {long} {at} e h = subst (Tells long at) e h
 pub tells-done : {long at : ℕ} {p : Part} {x : Parsed} → x ≡ Done p → Tells long at x → Told long at (p .value) (p .extra) (p .mark) (p .next)
 tells-done {long} {at} e h = subst (Tells long at) e h
 
--- a good record that owns no list
-pub fine-told : {s : List ℕ} {own left standing at : ℕ} {r : Read} → Fine s own left standing at r → {v m : ℕ} → v ≤ 1099511627775 → m ≤ 1000001 →
-    Told (length s) at v 0 m (r .next)
-fine-told f v m = record { value = v; extra = omega arith; mark = m; past = f .past; inside = f .inside }
+-- a record without children
+told-alone : {long at v m : ℕ} {next : Cursor} → at + 8 ≤ next .at → next .at ≤ long → v ≤ 1099511627775 → m ≤ 1000001 → Told long at v 0 m next
+told-alone past inside v m = record { value = v; extra = omega arith; mark = m; past = past; inside = inside }
+
+pub alone-tells : (long at : ℕ) (bounds : List ℕ) {own : ℕ} {r : Read} → ((i : ℕ) → getD bounds i 0 ≤ 1099511627775) →
+    at + 8 ≤ r .next .at → r .next .at ≤ long → Sorted own r → Tells long at (aloneOf bounds r)
+unfolding aloneOf
+alone-tells long at bounds small past inside (a-primitive h) = told-alone past inside (omega arith) (omega arith)
+alone-tells long at bounds small past inside (a-sequence h) = told-alone past inside (omega arith) (omega arith)
+alone-tells long at bounds small past inside (an-alternative g h) = told-alone past inside (omega arith) (omega arith)
+alone-tells long at bounds small past inside (a-head-loop h m) = told-alone past inside (omega arith) (omega arith)
+alone-tells long at bounds small past inside (a-tail-loop g h m) = told-alone past inside (omega arith) (omega arith)
+alone-tells long at bounds small past inside (a-timed-loop h) = told-alone past inside (omega arith) (omega arith)
+alone-tells long at bounds small past inside (a-call {number = n} g h) = told-alone past inside (small (n - 1)) (omega arith)
+alone-tells long at bounds small past inside (a-marker g h) = told-alone past inside (omega arith) (omega arith)
 
 -- a record ends
 ended-tells : (long value over extra mark start : ℕ) (next : Cursor) → extra ≤ valueCap → mark ≤ 1000001 → start + 8 ≤ next .at → next .at ≤ long →

@@ -7,7 +7,7 @@ use native.Mathlib.Omega.{arith}
 use Rattle.records.specs.declared.Cursor.{Cursor}
 use Rattle.records.specs.declared.Read.{Read}
 use Rattle.records.specs.declared.Head.the-variants as head
-use Rattle.records.specs.declared.Owed.the-variants.{Sheet, Routine}
+use Rattle.meaning.specs.Judgement.{sheet, routine}
 use Rattle.reader.specs.declared.Part.{Part}
 use Rattle.reader.specs.declared.Parsed.{Parsed}
 use Rattle.reader.specs.declared.Parsed.the-variants.{Plain, Done, Refused}
@@ -24,11 +24,11 @@ pub owns-body : {organisation : ℕ} → organisation ≤ 4294967295 → Owns 7 
 owns-body h = record { counts = no-loop refl; cost = h; few = omega arith; sum = omega arith }
 
 module _ (s bounds : List ℕ) (own : ℕ) (c : Cursor) where
-  pub routine-refused : {number place : ℕ} → recordOf s Routine c ≡ head.Refused number place → routineOf s bounds own c ≡ Refused number place
+  pub routine-refused : {number place : ℕ} → recordOf s routine c ≡ head.Refused number place → routineOf s bounds own c ≡ Refused number place
   unfolding routineOf
   routine-refused e = rw e
 
-  pub routine-good : {r : Read} → recordOf s Routine c ≡ head.Good r →
+  pub routine-good : {r : Read} → recordOf s routine c ≡ head.Good r →
       routineOf s bounds own c ≡ listOf (constructOf 24 s bounds own) (ownerOf 7 (r .first) 0 (c .at) 0 0) 1 0 (r .next) noTally []
   unfolding routineOf
   routine-good e = rw e
@@ -113,12 +113,12 @@ module _ {n : ℕ} {s lent : List ℕ} {number : ℕ} {none : Bounds} {first : R
       under-more (p .value) (p .over) (p .next) (rw (routines-step n s number b run (t .more), t .is ∙ e)) (tells-done e (t .tells) .value) f
 
 module _ (s : List ℕ) (number : ℕ) where
-  pub sheet-refused : {k p : ℕ} → recordOf s Sheet (record { at = 0 }) ≡ head.Refused k p →
+  pub sheet-refused : {k p : ℕ} → recordOf s sheet (record { at = 0 }) ≡ head.Refused k p →
       sheetOf s number ≡ refusal (length s) k p noBounds
   unfolding sheetOf
   sheet-refused e = rw e
 
-  pub sheet-good : {r : Read} → recordOf s Sheet (record { at = 0 }) ≡ head.Good r →
+  pub sheet-good : {r : Read} → recordOf s sheet (record { at = 0 }) ≡ head.Good r →
       sheetOf s number ≡ routinesOf (r .second) s number noBounds (runFrom (length s) (r .next))
   unfolding sheetOf
   sheet-good e = rw e

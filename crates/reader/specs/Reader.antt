@@ -1,33 +1,30 @@
 -- What the readers come to, in the code's shape: one pass over the bytes that builds no tree. The crate bridge ties them to document 01.
 use Prim.Native.Nat.{ℕ, zero, suc, _+_, _-_, _*_, _≤_}
-use mathlib.Core.Bool.{Bool, true, false}
+use mathlib.Core.Path.{_≡_}
+use mathlib.Core.Bool.{Bool, false, not}
 use mathlib.Core.List.{List, []}
 use lib.ListN.{length, getD, set, replicate}
 use lib.Dec.{ltb, eqb}
 use Rattle.meaning.specs.Format.{pick}
-use Rattle.meaning.specs.Judgement.{judged}
+use Rattle.meaning.specs.Judgement.{Owed, sheet, routine, judged}
 use Rattle.records.specs.declared.Cursor.{Cursor}
 use Rattle.records.specs.declared.Read.{Read}
 use Rattle.records.specs.declared.Head.{Head}
 use Rattle.records.specs.declared.Head.the-variants as head
-use Rattle.records.specs.declared.Owed.{Owed}
-use Rattle.records.specs.declared.Owed.the-variants.{Sheet, Routine, Construct}
-use Rattle.records.specs.Records.{owedBy, headOf}
-use Rattle.reader.specs.declared.Part.{Part}
+use Rattle.records.specs.Records.{constructAs, headOf}
 use Rattle.reader.specs.declared.Parsed.{Parsed}
 use Rattle.reader.specs.declared.Parsed.the-variants.{Plain, Done, Refused}
 use Rattle.reader.specs.declared.Tally.{Tally}
 use Rattle.reader.specs.declared.Bounds.{Bounds}
 use Rattle.reader.specs.declared.Run.{Run}
 use Rattle.reader.specs.declared.Report.{Report}
-use Rattle.reader.specs.declared.Answer.{Answer}
 use Rattle.reader.specs.declared.Answer.the-variants as answer
 use Rattle.reader.specs.Tallies.{chargesOf, noTally, withOf, keptOf, part, closeOf, heaviest, heaviestSum, Counts}
 use Rattle.reader.specs.Ways.{waysOf, wayOf}
 
 -- the record at a cursor, judged
 abbrev pub recordOf : List ℕ → Owed → Cursor → Head
-recordOf s owed c = headOf (judged s (owedBy owed) (c .at))
+recordOf s owed c = headOf (judged s owed (c .at))
 
 abbrev pub onHead : {A : Type 0} → Head → (ℕ → ℕ → A) → (Read → A) → A
 onHead (head.Refused number place) g f = g number place
@@ -74,24 +71,34 @@ listOf read o (suc n) i c t marks =
     onParsed (childOf read o i (length marks) c) Refused (λ value over extra mark next.
     listOf read o n (i + 1) next (withOf (o .kind) (o .first) i t value over extra mark) (keptOf (o .kind) i value mark marks))
 
--- a good record, and what it owns
-unfoldable pub ownedOf : ChildReader → List ℕ → ℕ → ℕ → ℕ → Read → Parsed
-ownedOf read bounds start standing product r =
+-- a record that owns nothing: a primitive, a call, a marker, or an empty sequence
+unfoldable pub aloneOf : List ℕ → Read → Parsed
+aloneOf bounds r =
     pick (eqb (r .kind) 2) (Plain (r .first) (r .next))
     (pick (eqb (r .kind) 8) (Plain (getD bounds (r .first - 1) 0) (r .next))
     (pick (eqb (r .kind) 9) (Done (part (r .second) 0 0 (r .first + 1) (r .next)))
-    (listOf read (ownerOf (r .kind) (r .first) (r .second) start standing product) (r .children) 0 (r .next) noTally [])))
+    (Plain 0 (r .next))))
+
+-- a good record, and what it owns
+abbrev pub startsList : ℕ → Bool
+startsList kind = pick (eqb kind 2) false (pick (eqb kind 8) false (not (eqb kind 9)))
+
+unfoldable pub ownedOf : ChildReader → List ℕ → ℕ → ℕ → ℕ → Read → Parsed
+ownedOf read bounds start standing product r =
+    pick (startsList (r .kind))
+    (listOf read (ownerOf (r .kind) (r .first) (r .second) start standing product) (r .children) 0 (r .next) noTally [])
+    (aloneOf bounds r)
 
 -- the construct at a cursor, with so many depths left
 unfoldable pub constructOf : ℕ → List ℕ → List ℕ → ℕ → ChildReader
-constructOf zero s bounds own standing product c = onHead (recordOf s (Construct own 0 standing) c) Refused (λ r. Refused 8 (c .at))
+constructOf zero s bounds own standing product c = onHead (recordOf s (constructAs own 0 standing) c) Refused (λ r. Refused 8 (c .at))
 constructOf (suc left) s bounds own standing product c =
-    onHead (recordOf s (Construct own (suc left) standing) c) Refused (ownedOf (constructOf left s bounds own) bounds (c .at) standing product)
+    onHead (recordOf s (constructAs own (suc left) standing) c) Refused (ownedOf (constructOf left s bounds own) bounds (c .at) standing product)
 
 -- a routine, whose organisation and body add up as the time and the statement of a timed loop
 unfoldable pub routineOf : List ℕ → List ℕ → ℕ → Cursor → Parsed
 routineOf s bounds own c =
-    onHead (recordOf s Routine c) Refused (λ r.
+    onHead (recordOf s routine c) Refused (λ r.
     listOf (constructOf 24 s bounds own) (ownerOf 7 (r .first) 0 (c .at) 0 0) 1 0 (r .next) noTally [])
 
 -- no bounds yet; one more
@@ -136,7 +143,7 @@ routinesOf (suc n) s number b run =
 -- the sheet record, then its routines
 unfoldable pub sheetOf : List ℕ → ℕ → Report
 sheetOf s number =
-    onHead (recordOf s Sheet (record { at = 0 })) (λ k p. refusal (length s) k p noBounds) (λ r.
+    onHead (recordOf s sheet (record { at = 0 })) (λ k p. refusal (length s) k p noBounds) (λ r.
     routinesOf (r .second) s number noBounds (runFrom (length s) (r .next)))
 
 -- TOO LONG comes first
@@ -157,3 +164,8 @@ pub record Owns (kind first n : ℕ) : Type 0 where
   pub cost : first ≤ 4294967295
   pub few : n ≤ 1001
   pub sum : n * heaviest kind ≤ heaviestSum
+
+-- a record that owns nothing: a routine that it calls has a bound, and a limit + 1 fits
+pub record Alone (r : Read) : Type 0 where
+  pub called : r .kind ≡ 8 → (1 ≤ r .first) × (r .first ≤ 64)
+  pub marked : r .kind ≡ 9 → r .first ≤ 1000000

@@ -1,7 +1,7 @@
 // Reads a sheet once: its routines and their constructs, with the value of each as it ends.
 use records::Cursor;
 use records::Head;
-use records::Owed;
+use records::Read;
 ghost use mathlib.Core.Path.{_≡_};
 ghost use Prim.Native.Nat.{_+_, _*_, _≤_, _<_, min, max};
 ghost use mathlib.Core.List.{[]};
@@ -9,8 +9,8 @@ ghost use lib.ListN.{length, take};
 ghost use Rattle.meaning.specs.Format.{pick};
 ghost use Rattle.reader.specs.Tallies.{valueCap, chargeOf, chargesOf, counted, isBranch, noTally, withOf, keptOf, endedOf, closeOf};
 ghost use Rattle.reader.specs.Tallies.{heaviest, heaviestSum, Counts, Held, Tells};
-ghost use Rattle.reader.specs.Ways.{leadOf, bodyOf, innerOf, waysOf, wayOf};
-ghost use Rattle.reader.specs.Reader.{listOf, constructOf, routineOf, noBounds, runFrom, runWith, refusal, verdictOf, routinesOf, sheetOf, readOf};
+ghost use Rattle.reader.specs.Ways.{leadOf, bodyOf, innerOf, ways, waysOf, wayOf};
+ghost use Rattle.reader.specs.Reader.{aloneOf, Alone, listOf, constructOf, routineOf, noBounds, runFrom, runWith, refusal, verdictOf, routinesOf, sheetOf, readOf};
 ghost use Rattle.reader.specs.Reader.{Lent, Owns, ownerOf};
 
 // The answer: the task's bound, or a refusal's number and place.
@@ -162,6 +162,18 @@ fn inner_of(count: u64, scope: u64, product: u64) -> u64
     at_most(1000000, product * count)
 }
 
+fn stands(lead: u64, third: u64, others: u64, branches: u64, inner: u64) -> Ways
+    ensures { λ r. ⌜ r ≡ ways lead third others branches inner ⌝ }
+{
+    Ways {
+        lead,
+        third,
+        others,
+        branches,
+        inner,
+    }
+}
+
 // How the children of a record stand.
 fn ways_of(kind: u64, first: u64, second: u64, standing: u64, product: u64) -> Ways
     requires { ⌜ Counts kind first ⌝ }
@@ -171,53 +183,29 @@ fn ways_of(kind: u64, first: u64, second: u64, standing: u64, product: u64) -> W
     match kind {
         3 => {
             let others = at_most(2, standing);
-            Ways {
-                lead: lead_of(standing),
-                third: others,
-                others,
-                branches: 0,
-                inner: product,
-            }
+            stands(lead_of(standing), others, others, 0, product)
         }
         4 => {
             if standing == 0 {
-                return Ways {
-                    lead: 0,
-                    third: 0,
-                    others: 0,
-                    branches: 0,
-                    inner: product,
-                };
+                return stands(0, 0, 0, 0, product);
             }
-            Ways {
-                lead: 0,
-                third: 3,
-                others: 3,
-                branches: first,
-                inner: product,
-            }
+            stands(0, 3, 3, first, product)
         }
-        5 => Ways {
-            lead: 0,
-            third: body_of(second, standing),
-            others: 0,
-            branches: 0,
-            inner: inner_of(first, second, product),
-        },
-        6 => Ways {
-            lead: body_of(second, standing),
-            third: 0,
-            others: 0,
-            branches: 0,
-            inner: inner_of(first, second, product),
-        },
-        _ => Ways {
-            lead: 0,
-            third: 0,
-            others: 0,
-            branches: 0,
-            inner: 0,
-        },
+        5 => stands(
+            0,
+            body_of(second, standing),
+            0,
+            0,
+            inner_of(first, second, product),
+        ),
+        6 => stands(
+            body_of(second, standing),
+            0,
+            0,
+            0,
+            inner_of(first, second, product),
+        ),
+        _ => stands(0, 0, 0, 0, 0),
     }
 }
 
@@ -399,6 +387,34 @@ fn close(
     ended(value, t.over, extra, t.mark, start, next)
 }
 
+// A record that owns nothing starts no list: a primitive, a call, a marker, or an empty sequence.
+fn alone(r: Read, bounds: &[u64; 64]) -> Parsed
+    requires { ⌜ Alone r ⌝ }
+    ensures { λ p. ⌜ p ≡ aloneOf (now (bounds .entry)) r ⌝ }
+{
+    let kind = r.kind;
+    let next = r.next;
+    match kind {
+        2 => Parsed::Plain(r.first, next),
+        8 => {
+            let called = (r.first - 1) as usize;
+            let bound = bounds[called];
+            Parsed::Plain(bound, next)
+        }
+        9 => {
+            let mark = r.first + 1;
+            Parsed::Done(Part {
+                value: r.second,
+                over: 0,
+                extra: 0,
+                mark,
+                next,
+            })
+        }
+        _ => Parsed::Plain(0, next),
+    }
+}
+
 // One construct, with the list that it owns. marks keeps the marked branches of the alternatives that are open, so many of them.
 fn construct(
     s: &[u8],
@@ -418,53 +434,29 @@ fn construct(
     ensures { λ r. ⌜ length (now (marks .exit)) ≡ length (now (marks .entry)) ⌝ }
 {
     let start = c.at;
-    match c.record(
-        s,
-        Owed::Construct {
-            own,
-            left,
-            standing,
-        },
-    ) {
+    match c.construct(s, own, left, standing) {
         Head::Refused(number, place) => Parsed::Refused(number, place),
         Head::Good(r) => {
-            let kind = r.kind;
-            let next = r.next;
-            match kind {
-                2 => Parsed::Plain(r.first, next),
-                8 => {
-                    let called = (r.first - 1) as usize;
-                    Parsed::Plain(bounds[called], next)
-                }
-                9 => Parsed::Done(Part {
-                    value: r.second,
-                    over: 0,
-                    extra: 0,
-                    mark: r.first + 1,
-                    next,
-                }),
-                _ => {
-                    if r.children == 0 {
-                        return Parsed::Plain(0, next);
-                    }
-                    list(
-                        s,
-                        next,
-                        start,
-                        kind,
-                        r.first,
-                        r.second,
-                        r.children,
-                        bounds,
-                        own,
-                        left - 1,
-                        marks,
-                        held,
-                        standing,
-                        product,
-                    )
-                }
+            if r.children == 0 {
+                return alone(r, bounds);
             }
+            let next = r.next;
+            list(
+                s,
+                next,
+                start,
+                r.kind,
+                r.first,
+                r.second,
+                r.children,
+                bounds,
+                own,
+                left - 1,
+                marks,
+                held,
+                standing,
+                product,
+            )
         }
     }
 }
@@ -500,8 +492,18 @@ fn list(
     let mut at = c;
     let mut i: u64 = 0;
     while i < n {
-        let stands = w.of(i, (held - base) as u64);
-        match construct(s, at, bounds, own, left, marks, held, stands, w.inner) {
+        let standing_of_child = w.of(i, (held - base) as u64);
+        match construct(
+            s,
+            at,
+            bounds,
+            own,
+            left,
+            marks,
+            held,
+            standing_of_child,
+            w.inner,
+        ) {
             Parsed::Refused(number, place) => {
                 return Parsed::Refused(number, place);
             }
@@ -533,7 +535,7 @@ fn routine(s: &[u8], c: Cursor, bounds: &[u64; 64], own: u64, marks: &mut [u64])
     ensures { λ r. ⌜ length (now (marks .exit)) ≡ length (now (marks .entry)) ⌝ }
 {
     let start = c.at;
-    match c.record(s, Owed::Routine) {
+    match c.routine(s) {
         Head::Refused(number, place) => Parsed::Refused(number, place),
         Head::Good(r) => {
             let next = r.next;
@@ -668,7 +670,7 @@ fn sheet(s: &[u8], number: u64, marks: &mut [u64]) -> Report
     ensures { λ r. ⌜ r ≡ sheetOf (now (s .entry)) number ⌝ }
 {
     let c = Cursor { at: 0 };
-    match c.record(s, Owed::Sheet) {
+    match c.sheet(s) {
         Head::Refused(k, p) => {
             let b = Bounds::none();
             refused(s.len(), k, p, b)

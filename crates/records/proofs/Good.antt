@@ -1,4 +1,4 @@
--- What is known of a good record, for the callers of `Cursor::record` in other crates: its sort with its ranges, and where it ends.
+-- What is known of a good record, for the callers of `Cursor` in other crates: its sort with its ranges, and where it ends.
 use Prim.Native.Nat.{ℕ, suc, _+_, _≤_, _<_}
 use mathlib.Core.Path.{_≡_, refl, subst}
 use mathlib.Core.Bool.{Bool, true, false, false≢true}
@@ -15,8 +15,7 @@ use Rattle.meaning.proofs.Laws.{pick-true, pick-false, within-is}
 use Rattle.records.specs.declared.Cursor.{Cursor}
 use Rattle.records.specs.declared.Read.{Read}
 use Rattle.records.specs.declared.Head.the-variants.{Good}
-use Rattle.records.specs.declared.Owed.the-variants.{Sheet, Routine, Construct}
-use Rattle.records.specs.Records.{owedBy, childrenOf, headOf}
+use Rattle.records.specs.Records.{constructAs, childrenOf, headOf}
 use Rattle.records.proofs.Table.{Each, _&_, by-rows}
 
 -- a good construct's record by its kind, in a routine of this number
@@ -120,21 +119,19 @@ two-fields P p q k (a ∷ fields) h =
     one-field (λ z. P (a ∷ z)) q (λ b l m. k a b low high l m) fields later
 
 module _ (s : List ℕ) (own left standing at : ℕ) where
-  abbrev owed : judgement.Owed
-  owed = owedBy (Construct own left standing)
-
   abbrev Of : ℕ → ℕ → List ℕ → Type 0
   Of kind past fields = badCall own (of kind fields) ≡ false → Sorted own (readOf (of kind fields) past)
 
   row : (kind : ℕ) (ranges : List Range) → 1 ≤ length ranges →
-      ((fields : List ℕ) → inRanges ranges fields ≡ true → Of kind (at + lengthOf (length ranges)) fields) → Row s owed at (Fine s own left standing at) kind ranges
+      ((fields : List ℕ) → inRanges ranges fields ≡ true → Of kind (at + lengthOf (length ranges)) fields) →
+      Row s (constructAs own left standing) at (Fine s own left standing at) kind ranges
   row kind ranges some sort fields inside room keeps =
       let l = length-drop at s in
       record { sorted = sort fields inside (keeps .0); deep = keeps .1; past = omega arith; inside = omega arith }
 
-  pub fine : {r : Read} → headOf (judged s (owedBy (Construct own left standing)) at) ≡ Good r → Fine s own left standing at r
+  pub fine : {r : Read} → headOf (judged s (constructAs own left standing) at) ≡ Good r → Fine s own left standing at r
   unfolding childrenOf
-  fine = good s owed at (Fine s own left standing at) (
+  fine = good s (constructAs own left standing) at (Fine s own left standing at) (
       row 2 _ (omega arith) (one-field (Of 2 _) _ (λ a _ high _. a-primitive high))
       & row 3 _ (omega arith) (one-field (Of 3 _) _ (λ a _ high _. a-sequence high))
       & row 4 _ (omega arith) (one-field (Of 4 _) _ (λ a low high _. an-alternative low high))
@@ -146,7 +143,7 @@ module _ (s : List ℕ) (own left standing at : ℕ) where
       & row 9 _ (omega arith) (two-fields (Of 9 _) _ _ (λ a b _ high _ most _. a-marker high most))
       & tt)
 
-pub routine-fine : (s : List ℕ) (at : ℕ) {r : Read} → headOf (judged s (owedBy Routine) at) ≡ Good r → RoutineFine s at r
+pub routine-fine : (s : List ℕ) (at : ℕ) {r : Read} → headOf (judged s judgement.routine at) ≡ Good r → RoutineFine s at r
 unfolding childrenOf
 routine-fine s at =
     let l = length-drop at s in
@@ -160,7 +157,7 @@ routine-fine s at =
       inside = omega arith;
     }) fields inside) & tt)
 
-pub sheet-fine : (s : List ℕ) {r : Read} → headOf (judged s (owedBy Sheet) 0) ≡ Good r → SheetFine s r
+pub sheet-fine : (s : List ℕ) {r : Read} → headOf (judged s judgement.sheet 0) ≡ Good r → SheetFine s r
 sheet-fine s =
     good s judgement.sheet 0 (SheetFine s) (
     (λ fields inside room _. two-fields (λ f. SheetFine s (readOf (of 100 f) 12)) _ _ (λ a b low high some few. record {

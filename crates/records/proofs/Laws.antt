@@ -22,7 +22,7 @@ pub itself : (t : Bool) → pick t true false ≡ t
 itself true = refl
 itself false = refl
 
-pub same : (a b : Bool) → (a ≡ true → b ≡ true) → (b ≡ true → a ≡ true) → a ≡ b
+same : (a b : Bool) → (a ≡ true → b ≡ true) → (b ≡ true → a ≡ true) → a ≡ b
 same true b h k = sym (h refl)
 same false true h k = k refl
 same false false h k = refl

@@ -1,6 +1,6 @@
 -- What the proofs of several functions use, and what callers in other crates use.
 pub mod Laws
 pub mod Table
-pub mod Judged
+pub mod Judging
 pub mod Good
 pub mod Determined

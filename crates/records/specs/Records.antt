@@ -1,18 +1,14 @@
--- What `Cursor::record` promises: document 01's judgement of one record, in the code's types.
+-- What `Cursor`'s public functions promise: document 01's judgement of one record, in the code's types.
 use Prim.Native.Nat.{ℕ, suc}
-use mathlib.Core.Bool.{Bool, true, false, not}
+use mathlib.Core.Bool.{Bool, true, not}
 use lib.Dec.{leb, eqb}
 use Rattle.meaning.specs.Format as format
 use Rattle.meaning.specs.Format.{pick, field}
 use Rattle.meaning.specs.Legal.{Reach}
 use Rattle.meaning.specs.Judgement as judgement
 use Rattle.meaning.specs.Judgement.{Reading, found}
-use Rattle.records.specs.declared.Cursor.{Cursor}
-use Rattle.records.specs.declared.Read.{Read}
 use Rattle.records.specs.declared.Head.{Head}
 use Rattle.records.specs.declared.Head.the-variants.{Good, Refused}
-use Rattle.records.specs.declared.Owed.{Owed}
-use Rattle.records.specs.declared.Owed.the-variants.{Sheet, Routine, Construct}
 
 -- How a construct stands to a scope, by number: 0 in none that its marker could belong to; 1 in a scope; 2 inside an alternative of it;
 -- 3 a branch; 4 the last branch where all others are marked; 5 and 6 first in such a branch.
@@ -27,10 +23,9 @@ reachOf standing = record {
 abbrev pub lastOf : ℕ → Bool
 lastOf standing = pick (eqb standing 4) true (eqb standing 6)
 
-abbrev pub owedBy : Owed → judgement.Owed
-owedBy Sheet = judgement.sheet
-owedBy Routine = judgement.routine
-owedBy (Construct own left standing) = judgement.construct own left (reachOf standing) (lastOf standing)
+-- what is owed where a construct of routine own stands so, with so many depths left
+abbrev pub constructAs : ℕ → ℕ → ℕ → judgement.Owed
+constructAs own left standing = judgement.construct own left (reachOf standing) (lastOf standing)
 
 -- "Followed by": how many constructs a record owns
 unfoldable pub childrenOf : ℕ → ℕ → ℕ

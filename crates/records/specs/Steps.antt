@@ -4,20 +4,18 @@ use mathlib.Core.Bool.{Bool, true, false}
 use mathlib.Core.List.{List, _++_}
 use lib.ListN.{length, getD, drop}
 use lib.Dec.{leb, ltb, eqb}
-use Rattle.meaning.specs.Format.{pick, Range, _to_, Row, sheetRows, routineRows, constructRows, listed, rangesOf, lengthOf}
-use Rattle.meaning.specs.Judgement.{rowsOf, four}
+use Rattle.meaning.specs.Format.{pick, Range, _to_, Row, sheetRows, routineRows, constructRows, rangesOf, lengthOf}
+use Rattle.meaning.specs.Judgement.{four}
 use Rattle.records.specs.declared.Cursor.{Cursor}
-use Rattle.records.specs.declared.Read.{Read}
 use Rattle.records.specs.declared.Head.{Head}
 use Rattle.records.specs.declared.Head.the-variants.{Good, Refused}
-use Rattle.records.specs.declared.Owed.{Owed}
-use Rattle.records.specs.declared.Owed.the-variants.{Sheet, Routine, Construct}
 use Rattle.records.specs.declared.Form.{Form}
+use Rattle.records.specs.declared.Judged.{Judged}
 use Rattle.records.specs.declared.Field.{Field}
 use Rattle.records.specs.declared.Field.the-variants as field
 use Rattle.records.specs.declared.Fields.{Fields}
 use Rattle.records.specs.declared.Fields.the-variants as fields
-use Rattle.records.specs.Records.{owedBy, childrenOf}
+use Rattle.records.specs.Records.{childrenOf}
 
 -- the four bytes at a place
 unfoldable pub fieldAt : List ℕ → ℕ → Field
@@ -76,43 +74,45 @@ misplaced kind first own left standing =
     (pick (eqb kind 9) (markerFault standing)
     0))
 
-abbrev pub misplacedBy : Owed → ℕ → ℕ → ℕ
-misplacedBy Sheet kind first = 0
-misplacedBy Routine kind first = 0
-misplacedBy (Construct own left standing) kind first = misplaced kind first own left standing
-
-unfoldable pub faultOf : Owed → Form → ℕ → ℕ → ℕ → ℕ
-faultOf owed f kind first second = pick (isOutside f first second) 6 (misplacedBy owed kind first)
+-- how many constructs a record owns, by its form
+abbrev pub childrenBy : Form → ℕ → ℕ
+childrenBy f first = pick (f .listed) (f .children + first) (f .children)
 
 -- a refusal by its number, where 0 is none
 abbrev pub unless : ℕ → ℕ → Head → Head
 unless fault start good = pick (eqb fault 0) good (Refused fault start)
 
--- how many constructs a record owns, by its form
-abbrev pub childrenBy : Form → ℕ → ℕ
-childrenBy f first = pick (f .listed) (f .children + first) (f .children)
+-- a judged record as the callers see it; no record, by a refusal's number
+abbrev pub toldOf : Judged → ℕ → Head
+toldOf j start =
+    unless (j .fault) start (Good (record { kind = j .kind; first = j .first; second = j .second; children = j .children; next = j .next }))
+
+abbrev pub badAt : Cursor → ℕ → Judged
+badAt c fault = record { fault = fault; kind = 0; first = 0; second = 0; children = 0; next = c }
 
 -- from the fields on
-abbrev pub withFields : Owed → ℕ → ℕ → Form → Fields → Head
-withFields owed start kind f fields.Cut = Refused 3 start
-withFields owed start kind f (fields.All first second next) =
-    unless (faultOf owed f kind first second) start (Good (record {
+abbrev pub withFields : Cursor → ℕ → Form → ℕ → ℕ → ℕ → Fields → Judged
+withFields c kind f own left standing fields.Cut = badAt c 3
+withFields c kind f own left standing (fields.All first second next) =
+    pick (isOutside f first second) (badAt c 6) (record {
+      fault = misplaced kind first own left standing;
       kind = kind;
       first = first;
       second = second;
       children = childrenBy f first;
       next = next;
-    }))
+    })
 
 -- from the length on
-unfoldable pub judgeOf : List ℕ → Owed → ℕ → ℕ → ℕ → ℕ → Form → Head
-judgeOf s owed at start kind size f =
-    pick (eqb size (f .length)) (withFields owed start kind f (fieldsAt s at (eqb (f .length) 12))) (Refused 5 start)
+unfoldable pub judgeOf : List ℕ → Cursor → ℕ → ℕ → Form → ℕ → ℕ → ℕ → Judged
+judgeOf s c kind size f own left standing =
+    pick (eqb size (f .length)) (withFields c kind f own left standing (fieldsAt s (c .at) (eqb (f .length) 12))) (badAt c 5)
 
--- from the length and the kind on, which are read as one field
-abbrev pub withHead : List ℕ → Owed → ℕ → Field → Head
-withHead s owed start field.Cut = Refused 3 start
-withHead s owed start (field.Value head c) =
-    pick (listed (head / 65536) (rowsOf (owedBy owed)))
-    (judgeOf s owed (c .at) start (head / 65536) (head % 65536) (formOf (head / 65536)))
-    (Refused 4 start)
+-- from the length and the kind on, which are read as one field, where only this kind is owed
+abbrev pub withOnly : List ℕ → ℕ → ℕ → Field → Head
+withOnly s kind start field.Cut = Refused 3 start
+withOnly s kind start (field.Value head c) =
+    pick (eqb (head / 65536) kind) (toldOf (judgeOf s c kind (head % 65536) (formOf kind) 0 1 0) start) (Refused 4 start)
+
+unfoldable pub onlyOf : List ℕ → ℕ → ℕ → Head
+onlyOf s kind start = withOnly s kind start (fieldAt s start)

@@ -3,10 +3,9 @@ ghost use mathlib.Core.Path.{_≡_};
 ghost use mathlib.Core.Bool.{true};
 ghost use Prim.Native.Nat.{_+_, _≤_, _<_};
 ghost use lib.ListN.{length};
-ghost use Rattle.meaning.specs.Format.{listed};
-ghost use Rattle.meaning.specs.Judgement.{rowsOf, judged};
-ghost use Rattle.records.specs.Records.{owedBy, headOf};
-ghost use Rattle.records.specs.Steps.{fieldAt, fieldsAt, formOf, isOutside, isBadCall, misplaced, markerFault, faultOf, childrenBy, judgeOf};
+ghost use Rattle.meaning.specs.Judgement.{sheet, routine, judged};
+ghost use Rattle.records.specs.Records.{constructAs, headOf};
+ghost use Rattle.records.specs.Steps.{fieldAt, fieldsAt, formOf, isOutside, isBadCall, misplaced, markerFault, childrenBy, badAt, toldOf, judgeOf, onlyOf};
 
 // The reading place, handed from one record to the next by value.
 pub struct Cursor {
@@ -25,13 +24,6 @@ pub struct Read {
 pub enum Head {
     Good(Read),
     Refused(u64, usize),
-}
-
-// What is owed. Of a construct: its routine's number, the depths left, and how it stands to a scope (Records.reachOf).
-pub enum Owed {
-    Sheet,
-    Routine,
-    Construct { own: u64, left: u64, standing: u64 },
 }
 
 // What the table says of a kind: the length, the ranges of the fields, and how many constructs follow;
@@ -56,6 +48,23 @@ pub(crate) enum Field {
 pub(crate) enum Fields {
     All(u64, u64, Cursor),
     Cut,
+}
+
+// A record that is judged: a refusal's number, or 0 and what a good record has.
+pub(crate) struct Judged {
+    pub fault: u64,
+    pub kind: u64,
+    pub first: u64,
+    pub second: u64,
+    pub children: u64,
+    pub next: Cursor,
+}
+
+// Where a record stands: its routine's number, the depths left, and how it stands to a scope.
+pub(crate) struct Place {
+    pub own: u64,
+    pub left: u64,
+    pub standing: u64,
 }
 
 fn wide(b: u8) -> u64
@@ -84,41 +93,6 @@ fn row(
         most2,
         children,
         listed,
-    }
-}
-
-// Lengths, ranges and children by kind. A kind that stands in no row has length 0.
-fn form_of(kind: u64) -> Form
-    ensures { λ r. ⌜ r ≡ formOf kind ⌝ }
-{
-    // kind => length, least and most of the first field, least and most of the second, children, listed
-    match kind {
-        100 => row(12, 1, 1, 1, 64, 0, false),
-        1 => row(8, 0, 4294967295, 0, 0, 1, false),
-        2 => row(8, 0, 4294967295, 0, 0, 0, false),
-        3 => row(8, 0, 1000, 0, 0, 0, true),
-        4 => row(8, 2, 256, 0, 0, 1, true),
-        5 => row(12, 0, 1000000, 0, 1, 4, false),
-        6 => row(12, 1, 1000000, 0, 1, 3, false),
-        7 => row(8, 0, 4294967295, 0, 0, 1, false),
-        8 => row(8, 0, 4294967295, 0, 0, 0, false),
-        9 => row(12, 0, 1000000, 0, 4294967295, 0, false),
-        _ => row(0, 0, 0, 0, 0, 0, false),
-    }
-}
-
-// Whether a kind is one of those that are owed.
-fn is_owed(owed: Owed, kind: u64) -> bool
-    ensures { λ r. ⌜ r ≡ listed kind (rowsOf (owedBy owed)) ⌝ }
-{
-    match owed {
-        Owed::Sheet => kind == 100,
-        Owed::Routine => kind == 1,
-        Owed::Construct {
-            own: _,
-            left: _,
-            standing: _,
-        } => 2 <= kind && kind <= 9,
     }
 }
 
@@ -178,24 +152,6 @@ fn misplaced(kind: u64, first: u64, own: u64, left: u64, standing: u64) -> u64
     0
 }
 
-// Of a record whose fields are all there: 6 to 10 in order, or 0.
-fn fault_of(owed: Owed, f: Form, kind: u64, first: u64, second: u64) -> u64
-    ensures { λ r. ⌜ r ≡ faultOf owed f kind first second ⌝ }
-{
-    if is_outside(f, first, second) {
-        return 6;
-    }
-    match owed {
-        Owed::Sheet => 0,
-        Owed::Routine => 0,
-        Owed::Construct {
-            own,
-            left,
-            standing,
-        } => misplaced(kind, first, own, left, standing),
-    }
-}
-
 // How many constructs a record owns.
 fn children_of(f: Form, first: u64) -> u64
     requires { ⌜ (f .listed ≡ true → f .children + first ≤ 1000) ⌝ }
@@ -205,6 +161,23 @@ fn children_of(f: Form, first: u64) -> u64
         return f.children + first;
     }
     f.children
+}
+
+// A judged record as the callers see it; a refusal's place is the record's start.
+fn told(j: Judged, start: usize) -> Head
+    ensures { λ r. ⌜ r ≡ toldOf j start ⌝ }
+{
+    if j.fault != 0 {
+        return Head::Refused(j.fault, start);
+    }
+    let next = j.next;
+    Head::Good(Read {
+        kind: j.kind,
+        first: j.first,
+        second: j.second,
+        children: j.children,
+        next,
+    })
 }
 
 impl Cursor {
@@ -254,35 +227,85 @@ impl Cursor {
         Fields::All(first, 0, c)
     }
 
-    // The rest of the record of a kind that is owed, from its fields on.
-    fn judge(self, s: &[u8], owed: Owed, start: usize, kind: u64, size: u64) -> Head
-        requires { ⌜ self .at ≤ length (now s) ⌝ }
-        ensures { λ r. ⌜ r ≡ judgeOf (now (s .entry)) owed (self .at) start kind size (formOf kind) ⌝ }
+    // No record: a refusal's number.
+    fn bad(self, fault: u64) -> Judged
+        ensures { λ r. ⌜ r ≡ badAt self fault ⌝ }
     {
-        let f = form_of(kind);
+        Judged {
+            fault,
+            kind: 0,
+            first: 0,
+            second: 0,
+            children: 0,
+            next: self,
+        }
+    }
+
+    // The rest of a record of this kind, whose row is f, from its length on.
+    fn judge(self, s: &[u8], kind: u64, size: u64, f: Form, p: Place) -> Judged
+        requires { ⌜ (self .at ≤ length (now s)) × (f ≡ formOf kind) ⌝ }
+        ensures { λ r. ⌜ r ≡ judgeOf (now (s .entry)) self kind size (formOf kind) (p .own) (p .left) (p .standing) ⌝ }
+    {
         if size != f.length {
-            return Head::Refused(5, start);
+            return self.bad(5);
         }
         let Fields::All(first, second, next) = self.fields(s, f.length == 12) else {
-            return Head::Refused(3, start);
+            return self.bad(3);
         };
-        let fault = fault_of(owed, f, kind, first, second);
-        if fault != 0 {
-            return Head::Refused(fault, start);
+        if is_outside(f, first, second) {
+            return self.bad(6);
         }
-        let children = children_of(f, first);
-        Head::Good(Read {
+        Judged {
+            fault: misplaced(kind, first, p.own, p.left, p.standing),
             kind,
             first,
             second,
-            children,
+            children: children_of(f, first),
             next,
-        })
+        }
     }
 
-    // The record at the cursor, judged by what is owed, with the cursor past it.
-    pub fn record(self, s: &[u8], owed: Owed) -> Head
-        ensures { λ r. ⌜ r ≡ headOf (judged (now (s .entry)) (owedBy owed) (self .at)) ⌝ }
+    // The record at the cursor where only this kind is owed, which is neither a call nor a marker, by its row.
+    fn only(self, s: &[u8], kind: u64, f: Form) -> Head
+        requires { ⌜ f ≡ formOf kind ⌝ }
+        ensures { λ r. ⌜ r ≡ onlyOf (now (s .entry)) kind (self .at) ⌝ }
+    {
+        let start = self.at;
+        if s.len() < start {
+            return Head::Refused(3, start);
+        }
+        let Field::Value(head, c) = self.word(s) else {
+            return Head::Refused(3, start);
+        };
+        if head / 65536 != kind {
+            return Head::Refused(4, start);
+        }
+        let p = Place {
+            own: 0,
+            left: 1,
+            standing: 0,
+        };
+        told(c.judge(s, kind, head % 65536, f, p), start)
+    }
+
+    // The sheet record at the cursor, judged, with the cursor past it.
+    pub fn sheet(self, s: &[u8]) -> Head
+        ensures { λ r. ⌜ r ≡ headOf (judged (now (s .entry)) sheet (self .at)) ⌝ }
+    {
+        self.only(s, 100, row(12, 1, 1, 1, 64, 0, false))
+    }
+
+    // The routine record at the cursor, judged, with the cursor past it.
+    pub fn routine(self, s: &[u8]) -> Head
+        ensures { λ r. ⌜ r ≡ headOf (judged (now (s .entry)) routine (self .at)) ⌝ }
+    {
+        self.only(s, 1, row(8, 0, 4294967295, 0, 0, 1, false))
+    }
+
+    // The construct's record at the cursor, judged, with the cursor past it.
+    // own: its routine's number; left: the depths left; standing: how it stands to a scope (Records.reachOf).
+    pub fn construct(self, s: &[u8], own: u64, left: u64, standing: u64) -> Head
+        ensures { λ r. ⌜ r ≡ headOf (judged (now (s .entry)) (constructAs own left standing) (self .at)) ⌝ }
     {
         let start = self.at;
         if s.len() < start {
@@ -292,9 +315,24 @@ impl Cursor {
             return Head::Refused(3, start);
         };
         let kind = head / 65536;
-        if is_owed(owed, kind) {
-            return c.judge(s, owed, start, kind, head % 65536);
-        }
-        Head::Refused(4, start)
+        let size = head % 65536;
+        let p = Place {
+            own,
+            left,
+            standing,
+        };
+        // kind, and in its row: length, least and most of the first field, least and most of the second, children, listed
+        let j = match kind {
+            2 => c.judge(s, 2, size, row(8, 0, 4294967295, 0, 0, 0, false), p),
+            3 => c.judge(s, 3, size, row(8, 0, 1000, 0, 0, 0, true), p),
+            4 => c.judge(s, 4, size, row(8, 2, 256, 0, 0, 1, true), p),
+            5 => c.judge(s, 5, size, row(12, 0, 1000000, 0, 1, 4, false), p),
+            6 => c.judge(s, 6, size, row(12, 1, 1000000, 0, 1, 3, false), p),
+            7 => c.judge(s, 7, size, row(8, 0, 4294967295, 0, 0, 1, false), p),
+            8 => c.judge(s, 8, size, row(8, 0, 4294967295, 0, 0, 0, false), p),
+            9 => c.judge(s, 9, size, row(12, 0, 1000000, 0, 4294967295, 0, false), p),
+            _ => self.bad(4),
+        };
+        told(j, start)
     }
 }

@@ -1,9 +1,10 @@
 -- `construct` and `list` meet their contracts, by recursion on the depths left: a construct calls a list one depth further in, a list calls its constructs.
 -- `construct` rests on what a good record holds (records, `fine`) and on the laws of what it owns (Lists); the loop of `list` keeps `Going` by each `Child`.
-use Prim.Native.Nat.{ℕ, _+_, _-_, _*_, _<_, _≤_}
+use Prim.Native.Nat.{ℕ, _+_, _-_, _*_, _≤_, _<_}
 use mathlib.Core.Path.{_≡_, refl, sym, _∙_}
 use native.Mathlib.Omega.{arith}
 use borrow.Author.Needs.{needs}
+use lib.ListN.{length}
 use borrow.Fn.Kinds.{In}
 use borrow.Fn.PlainCycle.{Measures, is, falls, and}
 use Rattle.records.specs.declared.Read.{Read}
@@ -11,9 +12,8 @@ use Rattle.records.proofs.Good.{Fine, fine}
 use Rattle.reader.specs.Tallies.{heaviest, heaviestSum}
 use Rattle.reader.specs.Reader.{Owner, ownerOf, ChildReader, ownedOf, constructOf}
 use Rattle.reader.proofs.Laws.{fewer-small}
-use Rattle.reader.proofs.Lists.{construct-refused, construct-good, owned-primitive, owned-call, owned-marker, owned-list, owned-none}
-use Rattle.reader.proofs.Lists.{Others, listed, ranges, list-end}
-use Rattle.reader.proofs.Tells.{tells-plain, tells-done, fine-told, close-tells}
+use Rattle.reader.proofs.Lists.{construct-refused, construct-good, owned-alone, owned-list, alone-ranges, list-end}
+use Rattle.reader.proofs.Tells.{tells-plain, tells-done, alone-tells, close-tells}
 use Rattle.reader.proofs.Going.{Going, going-first, kept-part}
 use Rattle.reader.proofs.Going.{Child, child-below, child-long, child-refused, child-plain, child-room, child-done}
 use Rattle.reader.proofs.construct.Reads as construct
@@ -26,11 +26,12 @@ use Rattle.reader.proofs.Tally.none.Reads as none
 use Rattle.reader.proofs.Tally.plus.Reads as plus
 use Rattle.reader.proofs.Tally.with.Reads as with
 use Rattle.reader.proofs.Ways.of.Reads as of
+use Rattle.reader.proofs.alone.Reads as alone
 use Rattle.reader.proofs.charges.Reads as charges
 use Rattle.reader.proofs.close.Reads as closes
 use Rattle.reader.proofs.keep.Reads as keep
 use Rattle.reader.proofs.ways_of.Reads as ways-of
-use Rattle.records.proofs.Cursor.record.Reads as cursor-record
+use Rattle.records.proofs.Cursor.construct.Reads as cursor-construct
 use Rattle.reader.proofs.+construct+list.{statement}
 use Rattle.reader.proofs.+construct+list.Tie.{close}
 
@@ -64,7 +65,7 @@ module _ (t : ℕ) where
 
   -- what each may assume of the functions that it calls, in the order of the calls
   abbrev construct-calls : construct-lts.Claims
-  construct-calls = (cursor-record.Asked, cursor-record.Learnt, list-below, list.Post)
+  construct-calls = (cursor-construct.Asked, cursor-construct.Learnt, alone.Asked, alone.Learnt, list-below, list.Post)
 
   abbrev list-calls : list-lts.Claims
   list-calls = (
@@ -96,28 +97,16 @@ module _ (t : ℕ) where
       × (constructOf (a .left) (a .s .now) (a .bounds .now) (a .own) (a .standing) (a .product) (a .c)
       ≡ ownedOf (constructOf (a .left - 1) (a .s .now) (a .bounds .now) (a .own)) (a .bounds .now) (a .c .at) (a .standing) (a .product) r)
 
-  construct-read : (c : construct-lts.After-next construct-calls construct-at construct.Post) →
-      Good (c .before .before .before .before .before .before .before) (c .before .before .r .given .0 .0)
+  construct-read : (c : construct-lts.After-r construct-calls construct-at construct.Post) →
+      Good (c .before .before .before .before .before) (c .r .given .0 .0)
   construct-read c =
-      let a = c .before .before .before .before .before .before .before .args in
-      let e = sym (c .before .before .before .before .«record» .ensures) ∙ c .before .before .r .given .1 in
+      let a = c .before .before .before .before .before .args in
+      let e = sym (c .before .before .construct .ensures) ∙ c .r .given .1 in
       let f = fine (a .s .now) (a .own) (a .left) (a .standing) (a .c .at) e in
       (f, construct-good (a .left) (a .s .now) (a .bounds .now) (a .own) (a .standing) (a .product) (a .c) (f .deep) e)
 
-  -- its kind owns a list
-  construct-others : (c : construct-lts.At-match2-rest construct-calls construct-at construct.Post) → Others (c .before .before .before .r .given .0 .0 .kind)
-  construct-others c = let r = c .match2 .rest in record { two = r .0 .0 .1; eight = r .0 .1; nine = r .1 }
-
-  -- the routine that it calls has a bound
-  construct-called : (c : construct-lts.At-match2-keys2 construct-calls construct-at construct.Post) →
-      (1 ≤ c .before .before .before .r .given .0 .0 .first) × (c .before .before .before .r .given .0 .0 .first < 64)
-  construct-called c =
-      let start = c .before .before .before .before .before .before .before .before in
-      let (some, earlier) = ranges (construct-read (c .before) .0 .sorted) .called (c .match2 .keys2) in
-      (some, omega (arith, start .pre .1 .few))
-
-  construct-record-requires : construct-lts.Need-record-requires construct-calls construct-at construct.Post
-  construct-record-requires c κs = search needs
+  construct-construct-requires : construct-lts.Need-construct-requires construct-calls construct-at construct.Post
+  construct-construct-requires c κs = search needs
 
   construct-enum-known-number : construct-lts.Need-enum-known-number construct-calls construct-at construct.Post
   construct-enum-known-number c = search needs
@@ -125,75 +114,52 @@ module _ (t : ℕ) where
   construct-enum-known-r : construct-lts.Need-enum-known-r construct-calls construct-at construct.Post
   construct-enum-known-r c = search needs
 
-  construct-sub-called : construct-lts.Need-sub-called construct-calls construct-at construct.Post
-  construct-sub-called c = construct-called (c .before) .0
-
-  construct-mul-t22 : construct-lts.Need-mul-t22 construct-calls construct-at construct.Post
-  construct-mul-t22 c = omega (arith, construct-called (c .before))
-
-  construct-element-copy-out-t21 : construct-lts.Need-element-copy-out-t21 construct-calls construct-at construct.Post
-  construct-element-copy-out-t21 c = omega (arith, construct-called (c .before))
-
-  construct-add-t25 : construct-lts.Need-add-t25 construct-calls construct-at construct.Post
-  construct-add-t25 c =
-      let f = construct-read (c .before .before) .0 in
-      omega (arith, ranges (f .sorted) .marker (c .before .match2 .keys3))
+  construct-alone-requires : construct-lts.Need-alone-requires construct-calls construct-at construct.Post
+  construct-alone-requires c κs =
+      let read = c .before .before .before in
+      alone-ranges (construct-read read .0 .sorted) (read .before .before .before .before .before .pre .1 .few)
 
   construct-returns : construct-lts.Need-returns construct-calls construct-at construct.Post
   construct-returns c =
-      let (f, e) = construct-read (c .before .before .before) in
-      let others = construct-others (c .before .before) in
-      (sym (e ∙ owned-none _ _ _ _ _ (f .sorted) others (c .if1 .taken)), (fine-told f (omega arith) (omega arith), (refl, refl)))
+      let read = c .before .before .before .before in
+      let start = read .before .before .before .before .before in
+      let (f, e) = construct-read read in
+      let told = alone-tells (length (start .args .s .now)) _ _ (start .pre .1 .small) (f .past) (f .inside) (f .sorted) in
+      (c .alone .ensures ∙ sym (e ∙ owned-alone _ _ _ _ _ (f .sorted) (c .before .if1 .taken)), (rw (c .alone .ensures) told, (refl, refl)))
 
   construct-sub-list : construct-lts.Need-sub-list construct-calls construct-at construct.Post
-  construct-sub-list c = construct-read (c .before .before .before) .0 .deep
+  construct-sub-list c = construct-read (c .before .before .before .before) .0 .deep
 
   construct-list-requires : construct-lts.Need-list-requires construct-calls construct-at construct.Post
   construct-list-requires c κs =
-      let start = c .before .before .before .before .before .before .before .before .before .before .before in
-      let f = construct-read (c .before .before .before .before) .0 in
-      let p = start .pre .1 in (
+      let read = c .before .before .before .before .before in
+      let start = read .before .before .before .before .before in
+      let a = start .args in
+      let f = construct-read read .0 in
+      let p = start .pre .1 in
+      let list = owned-list (constructOf (a .left - 1) (a .s .now) (a .bounds .now) (a .own)) (a .bounds .now) (a .c .at) (a .standing) (a .product) (f .sorted) in (
         omega (arith, start .pre .0, f .deep),
         (
           record { small = p .small; few = p .few; passes = p .passes; room = p .room; kept = omega (arith, p .kept, f .past) },
-          (listed (f .sorted) (construct-others (c .before .before .before)) .0, (f .past, f .inside)),
+          (list (c .before .before .if1 .left) .1, (f .past, f .inside)),
         ),
       )
 
   construct-returns-2 : construct-lts.Need-returns-2 construct-calls construct-at construct.Post
   construct-returns-2 c =
       let a = c .before .before .before .before .before .before .args in
-      let e = sym (c .before .before .before .«record» .ensures) ∙ c .before .number .given .1 in
+      let e = sym (c .before .before .before .construct .ensures) ∙ c .before .number .given .1 in
       (sym (construct-refused (a .left) (a .s .now) (a .bounds .now) (a .own) (a .standing) (a .product) (a .c) e), (tt, (refl, refl)))
-
-  construct-returns-3 : construct-lts.Need-returns-3 construct-calls construct-at construct.Post
-  construct-returns-3 c =
-      let (f, e) = construct-read (c .before) in
-      let cost = ranges (f .sorted) .cost (c .match2 .keys1) in
-      (sym (e ∙ owned-primitive _ _ _ _ _ _ (c .match2 .keys1)), (fine-told f (omega arith) (omega arith), (refl, refl)))
-
-  construct-returns-4 : construct-lts.Need-returns-4 construct-calls construct-at construct.Post
-  construct-returns-4 c =
-      let start = c .before .before .before .before .before .before .before .before .before .before in
-      let (f, e) = construct-read (c .before .before .before) in
-      (sym (e ∙ owned-call _ _ _ _ _ _ (c .before .before .match2 .keys2)), (fine-told f (start .pre .1 .small _) (omega arith), (refl, refl)))
-
-  construct-returns-5 : construct-lts.Need-returns-5 construct-calls construct-at construct.Post
-  construct-returns-5 c =
-      let (f, e) = construct-read (c .before .before) in
-      let (limit, cost) = ranges (f .sorted) .marker (c .before .match2 .keys3) in
-      (sym (e ∙ owned-marker _ _ _ _ _ _ (c .before .match2 .keys3)), (fine-told f (omega arith) (omega arith), (refl, refl)))
 
   construct-same-length : construct-lts.Need-same-length construct-calls construct-at construct.Post
   construct-same-length c = c .before .before .list .ensures .1 .1 .1
 
-  construct-returns-6 : construct-lts.Need-returns-6 construct-calls construct-at construct.Post
-  construct-returns-6 c =
+  construct-returns-3 : construct-lts.Need-returns-3 construct-calls construct-at construct.Post
+  construct-returns-3 c =
       let called = c .before .before in
-      let rest = called .before .before .before .before in
-      let e = construct-read (rest .before) .1 in
-      let others = construct-others rest in
-      (rw (e, owned-list) (called .list .ensures .0), called .list .ensures .1)
+      let test = called .before .before .before in
+      let (f, e) = construct-read (test .before .before .before) in
+      (called .list .ensures .0 ∙ sym (e ∙ owned-list _ _ _ _ _ (f .sorted) (test .if1 .left) .0), called .list .ensures .1)
 
   -- `list`. How a child is read, and the record that owns it.
   abbrev List-start : Type 0
@@ -364,22 +330,16 @@ module _ (t : ℕ) where
 
 pub +construct+list-spec : {M : Type 1} → statement M
 +construct+list-spec = close μ-construct μ-list (λ t. construct-lts.spec (construct-calls t) (construct-at t) construct.Post
-    (construct-record-requires t)
+    (construct-construct-requires t)
     (construct-enum-known-number t)
     (construct-enum-known-r t)
-    (construct-sub-called t)
-    (construct-mul-t22 t)
-    (construct-element-copy-out-t21 t)
-    (construct-add-t25 t)
+    (construct-alone-requires t)
     (construct-returns t)
     (construct-sub-list t)
     (construct-list-requires t)
     (construct-returns-2 t)
-    (construct-returns-3 t)
-    (construct-returns-4 t)
-    (construct-returns-5 t)
     (construct-same-length t)
-    (construct-returns-6 t))
+    (construct-returns-3 t))
     λ t. list-lts.spec (list-calls t) (list-at t) list.Post list-Inv-loop list-μ-loop
     (list-ways-of-requires t)
     (list-none-requires t)

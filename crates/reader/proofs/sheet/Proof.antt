@@ -6,8 +6,8 @@ use Rattle.reader.proofs.Under.{sheet-refused, sheet-good}
 use Rattle.reader.proofs.sheet.Statement.{statement}
 use Rattle.reader.proofs.sheet.Tie as tie
 
-record-requires : tie.Need-record-requires
-record-requires c κs = search needs
+sheet-requires : tie.Need-sheet-requires
+sheet-requires c κs = search needs
 
 enum-known-k : tie.Need-enum-known-k
 enum-known-k c = search needs
@@ -24,13 +24,13 @@ enum-known-r c = search needs
 routines-requires : tie.Need-routines-requires
 routines-requires c κs =
     let start = c .before .before .before .before .before .before .before .before in
-    let e = sym (c .before .before .before .before .before .«record» .ensures) ∙ c .before .before .before .r .given .1 in
+    let e = sym (c .before .before .before .before .before .sheet .ensures) ∙ c .before .before .before .r .given .1 in
     (sheet-fine (start .args .s .now) e .few, start .pre)
 
 returns : tie.Need-returns
 returns c =
     let a = c .before .before .before .before .before .before .before .before .args in
-    let e = sym (c .before .before .before .before .before .«record» .ensures) ∙ c .before .before .before .k .given .1 in
+    let e = sym (c .before .before .before .before .before .sheet .ensures) ∙ c .before .before .before .k .given .1 in
     rw (c .refused .ensures, c .before .none .ensures) (sym (sheet-refused (a .s .now) (a .number) e))
 
 same-length : tie.Need-same-length
@@ -40,14 +40,14 @@ returns-2 : tie.Need-returns-2
 returns-2 c =
     let good = c .before .before .before .before .before .before in
     let a = good .before .before .before .before .before .args in
-    let e = sym (good .before .before .«record» .ensures) ∙ good .r .given .1 in
+    let e = sym (good .before .before .sheet .ensures) ∙ good .r .given .1 in
     rw (sheet-good (a .s .now) (a .number) e) (c .before .before .routines .ensures)
 
 pub sheet-spec : {M : Type 1} → statement M
 sheet-spec =
     tie.close
     (tie.spec
-    record-requires
+    sheet-requires
     enum-known-k
     none-requires
     refused-requires

@@ -1,0 +1,13 @@
+-- `told` makes a refusal of a fault, and a record of none.
+use borrow.Author.Tests.{eq-eqb, ne-eqb}
+use Rattle.records.proofs.told.Statement.{statement}
+use Rattle.records.proofs.told.Tie as tie
+
+returns : tie.Need-returns
+returns c = rw (ne-eqb _ _ (c .if1 .taken))
+
+returns-2 : tie.Need-returns-2
+returns-2 c = rw (eq-eqb _ _ (c .before .if1 .left))
+
+pub told-spec : {M : Type 1} → statement M
+told-spec = tie.close (tie.spec returns returns-2)
