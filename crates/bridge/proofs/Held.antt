@@ -16,8 +16,8 @@ use Rattle.meaning.specs.Value.{Known, value, bounds, nothing, boundsOf, taskBo
 use Rattle.meaning.specs.Answer.{ended, endedRoutines, endedOf, tooBig, accepted, partIn}
 use Rattle.records.specs.declared.Cursor.{Cursor}
 use Rattle.reader.specs.declared.Bounds.{Bounds}
-use Rattle.reader.specs.declared.Run.{Run}
-use Rattle.reader.specs.Reader.{noBounds, boundsWith, runFrom, runWith}
+use Rattle.reader.specs.declared.Progress.{Progress}
+use Rattle.reader.specs.Reader.{noBounds, boundsWith, progressFrom, progressWith}
 use Rattle.reader.proofs.Under.{set-small, none-small}
 use Rattle.bridge.proofs.Agree.{Over, Agrees, Finds, Small}
 use Rattle.bridge.proofs.Ends.{also, also-none, over-also}
@@ -37,7 +37,7 @@ module _ (s : List ℕ) (number edition : ℕ) where
   bigIn rs = tooBig (endedOf (sheetWith edition rs))
 
   -- What the code holds after these routines. Values count only while no record was too big.
-  pub record Holds (rs : List Routine) (b : Bounds) (run : Run) : Type 0 where
+  pub record Holds (rs : List Routine) (b : Bounds) (run : Progress) : Type 0 where
     pub place : run .at .at ≡ placeAfter rs
     pub many : b .count ≡ length rs
     pub room : length (b .values) ≡ 64
@@ -47,15 +47,15 @@ module _ (s : List ℕ) (number edition : ℕ) where
     pub last : bigIn rs ≡ none → run .last ≡ taskBound (sheetWith edition rs)
     pub part : partIn s (accepted (sheetWith edition rs)) number ≡ record { start = run .start; stop = run .end }
 
-  pub holds-none : (c : Cursor) → c .at ≡ 12 → Holds [] noBounds (runFrom (length s) c)
-  unfolding noBounds runFrom routinesBytes endedRoutines tooBig bounds
+  pub holds-none : (c : Cursor) → c .at ≡ 12 → Holds [] noBounds (progressFrom (length s) c)
+  unfolding noBounds progressFrom routinesBytes endedRoutines tooBig bounds
   holds-none c e = record { place = e; many = refl; room = refl; small = none-small 64; over = refl; values = λ _. refl; last = λ _. refl; part = none-asked number }
     where
       none-asked : (k : ℕ) → partIn s (accepted (sheetWith edition [])) k ≡ record { start = length s; stop = length s }
       none-asked zero = refl
       none-asked (suc i) = rw (le-ltb i 0 (omega arith))
 
-  module _ {rs : List Routine} {b : Bounds} {run : Run} (d : Holds rs b run) (space : b .count < 64)
+  module _ {rs : List Routine} {b : Bounds} {run : Progress} (d : Holds rs b run) (space : b .count < 64)
       {r : Routine} {past v o e m : ℕ} {next : Cursor} (f : Agrees (knownTo b) 0 (run .at .at) (asLoop r) past v o e m next)
       (long : Long (run .at .at) r past) where
     abbrev known : Known
@@ -67,8 +67,8 @@ module _ (s : List ℕ) (number edition : ℕ) where
         let same : knownTo b ≡ known = ap (λ z. record { bounds = z }) (d .values h) in
         rw (← same, ← d .place) f
 
-    pub holds-more : Holds (more r rs) (boundsWith b v) (runWith run (b .count + 1) number v o next)
-    unfolding boundsWith runWith
+    pub holds-more : Holds (more r rs) (boundsWith b v) (progressWith run (b .count + 1) number v o next)
+    unfolding boundsWith progressWith
     holds-more = record {
       place = place;
       many = (let n = length-more r rs in let k = d .many in omega arith);

@@ -1,15 +1,12 @@
 -- A sequence is read by the code as by the judgement.
 use Prim.Native.Nat.{ℕ, zero, suc, _+_, _≤_, min}
-use mathlib.Core.Path.{_≡_, refl, sym, ap, _∙_}
+use mathlib.Core.Path.{_≡_, refl, ap, _∙_}
 use mathlib.Core.Bool.{Bool, true, false}
 use mathlib.Core.List.{List, []}
 use mathlib.Core.Option.{Option, some, none}
 use lib.ListN.{length}
-use lib.Dec.{eqb}
-use borrow.Author.Tests.{eqb-true}
 use native.Mathlib.Omega.{arith}
 use Rattle.meaning.specs.Tree.{Marker, Construct, Constructs, sequence, end, _then_, itself, leading, mark}
-use Rattle.meaning.specs.Format.{pick}
 use Rattle.meaning.specs.Legal.{Reach, firstChild, laterChild}
 use Rattle.meaning.specs.Value.{Known, value, sum}
 use Rattle.meaning.specs.Judgement.{found, andThen, ConstructReader, list, sequenceAt}
@@ -21,6 +18,7 @@ use Rattle.reader.specs.declared.Tally.{Tally}
 use Rattle.reader.specs.Tallies.{chargesOf, counted, noTally, withOf, keptOf, closeOf}
 use Rattle.reader.specs.Ways.{waysOf, wayOf}
 use Rattle.reader.specs.Reader.{ChildReader, Owner, ownerOf, listOf}
+use Rattle.reader.proofs.Laws.{plain-over}
 use Rattle.bridge.proofs.Agree.{standingOf, occurs, markNumber, either, Agrees, Same}
 use Rattle.bridge.proofs.Standings.{first-occurs, way-first, way-later}
 use Rattle.bridge.proofs.Ends.{big-end, ended-law}
@@ -39,13 +37,6 @@ unfolding counted value
 all-counted known n i end = refl
 all-counted known n i (c then cs) = ap (λ z. value known c + z) (all-counted known n (i + 1) cs)
 
-zero-or : (m : ℕ) → pick (eqb m 0) 0 m ≡ m
-zero-or m = go (eqb m 0) refl
-  where
-    go : (t : Bool) → eqb m 0 ≡ t → pick t 0 m ≡ m
-    go true e = sym (eqb-true m 0 e)
-    go false e = refl
-
 either-none : (o : Option Marker) → either o none ≡ o
 either-none none = refl
 either-none (some m) = refl
@@ -54,7 +45,7 @@ led-mark : {known : Known} {n product at past : ℕ} {t : Tally} {marks : List �
     Led cs → t .mark ≡ markNumber (leading cs)
 unfolding withOf
 led-mark no-more h = refl
-led-mark (one-more {m = m} {c = c} g q rest) h = adds-mark (λ _. refl) rest (h .1) ∙ zero-or m ∙ g .marked ∙ rw (h .0, either-none (itself c))
+led-mark (one-more {m = m} {c = c} g q rest) h = adds-mark (λ _. refl) rest (h .1) ∙ plain-over m ∙ g .marked ∙ rw (h .0, either-none (itself c))
 
 module _ (known : Known) (s : List ℕ) (before own : ℕ) (number : own ≡ before + 1) (depth : ℕ) (read : ChildReader) (g : ConstructReader) (alike : Alike known read g)
     (sure : Sure s before own number depth g) (n product held start : ℕ) (cap : held ≡ min 1000000 product) (place : 1 ≤ start) (r : Reach)

@@ -19,10 +19,10 @@ use Rattle.records.specs.declared.Cursor.{Cursor}
 use Rattle.records.specs.Records.{headOf}
 use Rattle.reader.specs.declared.Parsed.{Parsed}
 use Rattle.reader.specs.declared.Bounds.{Bounds}
-use Rattle.reader.specs.declared.Run.{Run}
+use Rattle.reader.specs.declared.Progress.{Progress}
 use Rattle.reader.specs.declared.Report.{Report}
 use Rattle.reader.specs.declared.Answer.the-variants.{Accepted}
-use Rattle.reader.specs.Reader.{onHead, onParsed, noBounds, boundsWith, runFrom, runWith, refusal, verdictOf, routinesOf, sheetOf}
+use Rattle.reader.specs.Reader.{onHead, onParsed, noBounds, boundsWith, progressFrom, progressWith, refusal, verdictOf, routinesOf, sheetOf}
 use Rattle.reader.specs.Said.{saidOf, storedOf, partSaid}
 use Rattle.bridge.proofs.Agree.{Over, Agrees, Same, both-refused, read-plain, read-done}
 use Rattle.bridge.proofs.Marks.{first-most}
@@ -41,7 +41,7 @@ pub refusal-law : (s : List ℕ) (number k place : ℕ) (b : Bounds) → Reports
 unfolding refusal
 refusal-law s number k place b = record { said = refl; kept = λ _ e _. cc; part = refl }
 
-abbrev acceptance : Bounds → Run → Report
+abbrev acceptance : Bounds → Progress → Report
 acceptance b run = record { answer = Accepted (run .last); bounds = b; start = run .start; end = run .end }
 
 -- the sheet of these routines, unless bytes are left after them
@@ -54,7 +54,7 @@ after r g = andThen g (λ later past. found (r ∷ later) past)
 
 module _ (s : List ℕ) (number edition : ℕ) where
   -- EXTRA, then TOO BIG, then the task's bound
-  verdict-law : (rs : List Routine) (b : Bounds) (run : Run) → Holds s number edition rs b run →
+  verdict-law : (rs : List Routine) (b : Bounds) (run : Progress) → Holds s number edition rs b run →
       Reports s number (verdictOf (length s) b run) (judgement (whole s edition rs (run .at .at)))
   unfolding verdictOf refuse
   verdict-law rs b run d = by-place (ltb (run .at .at) (length s))
@@ -86,11 +86,11 @@ module _ (s : List ℕ) (number edition : ℕ) where
   -- n routines more
   abbrev RoutinesLaw : ℕ → Type 0
   RoutinesLaw n =
-      (rs : List Routine) (b : Bounds) (run : Run) → Holds s number edition rs b run → b .count + n ≤ 64 →
+      (rs : List Routine) (b : Bounds) (run : Progress) → Holds s number edition rs b run → b .count + n ≤ 64 →
       Reports s number (routinesOf n s number b run) (verdictWith rs (routinesAt n s (b .count + 1) (run .at .at)))
 
   routines-step : (n : ℕ) → RoutinesLaw n → RoutinesLaw (suc n)
-  unfolding routinesOf routinesAt boundsWith runWith
+  unfolding routinesOf routinesAt boundsWith progressWith
   routines-step n law rs b run d few =
       let p = d .place in
       by-routine (routine-long s (b .count) (b .count + 1) refl (run .at .at))
@@ -100,7 +100,7 @@ module _ (s : List ℕ) (number edition : ℕ) where
       later = routinesAt n s (b .count + 1 + 1)
 
       onward : ℕ → ℕ → Cursor → Report
-      onward v o next = routinesOf n s number (boundsWith b v) (runWith run (b .count + 1) number v o next)
+      onward v o next = routinesOf n s number (boundsWith b v) (progressWith run (b .count + 1) number v o next)
 
       one-more : {r : Routine} {past v o e m : ℕ} {next : Cursor} → Long (run .at .at) r past →
           Agrees (knownTo b) 0 (run .at .at) (asLoop r) past v o e m next → Reports s number (onward v o next) (verdictWith rs (after r (later past)))
@@ -128,9 +128,9 @@ few-routines edition many range = first-most _ _ many _ (first-most _ _ edition 
 
 module _ (s : List ℕ) (number : ℕ) where
   read-sheet : {j : Reading Record} → Found (Judged s sheet 0) j →
-      Reports s number (onHead (headOf j) (λ k p. refusal (length s) k p noBounds) (λ r. routinesOf (r .second) s number noBounds (runFrom (length s) (r .next))))
+      Reports s number (onHead (headOf j) (λ k p. refusal (length s) k p noBounds) (λ r. routinesOf (r .second) s number noBounds (progressFrom (length s) (r .next))))
       (judgement (andThen j (λ x next. andThen (routinesAt (field x 1) s 1 next) (λ rs past. whole s (field x 0) rs past))))
-  unfolding noBounds runFrom
+  unfolding noBounds progressFrom
   read-sheet (not-read {number = k} {place = p} n) = refusal-law s number k p noBounds
   read-sheet (was-read {a = x} {past = next} j) =
       let same = sheet-is x (j .kind) (j .range) in

@@ -14,9 +14,9 @@ use Rattle.records.proofs.Good.{sheet-fine}
 use Rattle.reader.specs.declared.Parsed.{Parsed}
 use Rattle.reader.specs.declared.Parsed.the-variants.{Plain, Done, Refused}
 use Rattle.reader.specs.declared.Bounds.{Bounds}
-use Rattle.reader.specs.declared.Run.{Run}
+use Rattle.reader.specs.declared.Progress.{Progress}
 use Rattle.reader.specs.declared.Report.{Report}
-use Rattle.reader.specs.Reader.{recordOf, onHead, onParsed, routineOf, noBounds, boundsWith, runFrom, runWith}
+use Rattle.reader.specs.Reader.{recordOf, onHead, onParsed, routineOf, noBounds, boundsWith, progressFrom, progressWith}
 use Rattle.reader.specs.Reader.{refusal, verdictOf, routinesOf, sheetOf, readOf}
 use Rattle.reader.proofs.Laws.{picked}
 
@@ -38,18 +38,18 @@ few-refusal : (long k p : ℕ) (b : Bounds) → b .count ≤ 64 → Few (refusal
 unfolding refusal
 few-refusal long k p b h = record { few = h }
 
-few-verdict : (long : ℕ) (b : Bounds) (run : Run) → b .count ≤ 64 → Few (verdictOf long b run)
+few-verdict : (long : ℕ) (b : Bounds) (run : Progress) → b .count ≤ 64 → Few (verdictOf long b run)
 unfolding verdictOf
 few-verdict long b run h =
     picked Few (ltb (run .at .at) long) (few-refusal long 11 (run .at .at) b h) (
     picked Few (eqb (run .over) 0) (record { few = h }) (few-refusal long 12 (run .over) b h))
 
-few-routines : (n : ℕ) (s : List ℕ) (number : ℕ) (b : Bounds) (run : Run) → b .count + n ≤ 64 → Few (routinesOf n s number b run)
+few-routines : (n : ℕ) (s : List ℕ) (number : ℕ) (b : Bounds) (run : Progress) → b .count + n ≤ 64 → Few (routinesOf n s number b run)
 unfolding routinesOf boundsWith
 few-routines zero s number b run h = few-verdict (length s) b run (omega arith)
 few-routines (suc n) s number b run h =
     few-parsed (routineOf s (b .values) (b .count + 1) (run .at)) _ _ (λ k p. few-refusal (length s) k p b (omega arith)) (λ v o e m next.
-    few-routines n s number (boundsWith b v) (runWith run (b .count + 1) number v o next) (omega arith))
+    few-routines n s number (boundsWith b v) (progressWith run (b .count + 1) number v o next) (omega arith))
 
 none-few : noBounds .count ≤ 0
 unfolding noBounds
@@ -62,4 +62,4 @@ few-read s number =
     picked Few (ltb 60000 (length s)) (few-refusal (length s) 2 0 noBounds (omega arith)) (
     few-head (recordOf s sheet (record { at = 0 })) _ _ (λ k p. few-refusal (length s) k p noBounds (omega arith)) (λ r e.
     let h = (sheet-fine s e) .few in
-    few-routines (r .second) s number noBounds (runFrom (length s) (r .next)) (omega arith)))
+    few-routines (r .second) s number noBounds (progressFrom (length s) (r .next)) (omega arith)))

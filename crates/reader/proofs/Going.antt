@@ -9,7 +9,7 @@ use lib.Seq.{take-take, take-append-le, drop-append-le}
 use native.Mathlib.Omega.{arith}
 use Rattle.meaning.specs.Format.{pick}
 use Rattle.records.specs.declared.Cursor.{Cursor}
-use Rattle.reader.specs.declared.Part.{Part}
+use Rattle.reader.specs.declared.Share.{Share}
 use Rattle.reader.specs.declared.Parsed.{Parsed}
 use Rattle.reader.specs.declared.Parsed.the-variants.{Plain, Done, Refused}
 use Rattle.reader.specs.declared.Tally.{Tally}
@@ -136,11 +136,11 @@ module _ {read : ChildReader} {o : Owner} {s lent : List ℕ} {n base : ℕ} {fr
       }
 
   -- there is room for one mark more
-  pub child-room : {p : Part} → x ≡ Done p → held < length after
+  pub child-room : {p : Share} → x ≡ Done p → held < length after
   child-room e = let told = tells-done e (k .tells) in omega arith
 
   -- any other child; where it is a marked branch, one mark more is kept
-  pub child-done : {p : Part} {u : Tally} {holds : ℕ} {last : List ℕ} → x ≡ Done p →
+  pub child-done : {p : Share} {u : Tally} {holds : ℕ} {last : List ℕ} → x ≡ Done p →
       (u ≡ withOf (o .kind) (o .first) i t (p .value) (p .over) (p .extra) (p .mark)) × Held (o .kind) (i + 1) u →
       Kept (o .kind) i (p .value) (p .mark) held after holds last → Going read o s lent n base from last u holds (p .next) (i + 1)
   child-done {p} {holds = holds} {last = last} e (add, hold) (many, (kept-as, longer)) =

@@ -11,7 +11,7 @@ use Rattle.records.specs.declared.Read.{Read}
 use Rattle.records.specs.declared.Head.the-variants as head
 use Rattle.records.specs.Records.{constructAs}
 use Rattle.records.proofs.Good.{Sorted, a-primitive, a-sequence, an-alternative, a-head-loop, a-tail-loop, a-timed-loop, a-call, a-marker}
-use Rattle.reader.specs.declared.Part.{Part}
+use Rattle.reader.specs.declared.Share.{Share}
 use Rattle.reader.specs.declared.Parsed.the-variants.{Plain, Done, Refused}
 use Rattle.reader.specs.declared.Tally.{Tally}
 use Rattle.reader.specs.Tallies.{chargesOf, noTally, withOf, keptOf, endedOf, closeOf, isLoop, Counts}
@@ -84,7 +84,7 @@ module _ (read : ChildReader) (o : Owner) (n i : ℕ) (c : Cursor) (t : Tally) (
   unfolding keptOf
   list-plain h e = rw (list-step h, e)
 
-  pub list-done : {p : Part} → i < n → childOf read o i (length marks) c ≡ Done p →
+  pub list-done : {p : Share} → i < n → childOf read o i (length marks) c ≡ Done p →
       listOf read o (n - i) i c t marks
       ≡ listOf read o (n - (i + 1)) (i + 1) (p .next)
       (withOf (o .kind) (o .first) i t (p .value) (p .over) (p .extra) (p .mark)) (keptOf (o .kind) i (p .value) (p .mark) marks)

@@ -11,7 +11,7 @@ use Rattle.meaning.specs.Format.{pick}
 use Rattle.records.specs.declared.Cursor.{Cursor}
 use Rattle.records.specs.declared.Read.{Read}
 use Rattle.records.proofs.Good.{Sorted, a-primitive, a-sequence, an-alternative, a-head-loop, a-tail-loop, a-timed-loop, a-call, a-marker}
-use Rattle.reader.specs.declared.Part.{Part}
+use Rattle.reader.specs.declared.Share.{Share}
 use Rattle.reader.specs.declared.Parsed.{Parsed}
 use Rattle.reader.specs.declared.Parsed.the-variants.{Plain, Done}
 use Rattle.reader.specs.declared.Tally.{Tally}
@@ -23,7 +23,7 @@ use Rattle.reader.proofs.Laws.{picked}
 pub tells-plain : {long at v : ℕ} {next : Cursor} {x : Parsed} → x ≡ Plain v next → Tells long at x → Told long at v 0 0 next
 tells-plain {long} {at} e h = subst (Tells long at) e h
 
-pub tells-done : {long at : ℕ} {p : Part} {x : Parsed} → x ≡ Done p → Tells long at x → Told long at (p .value) (p .extra) (p .mark) (p .next)
+pub tells-done : {long at : ℕ} {p : Share} {x : Parsed} → x ≡ Done p → Tells long at x → Told long at (p .value) (p .extra) (p .mark) (p .next)
 tells-done {long} {at} e h = subst (Tells long at) e h
 
 -- a record without children

@@ -8,14 +8,14 @@ use Rattle.records.specs.declared.Cursor.{Cursor}
 use Rattle.records.specs.declared.Read.{Read}
 use Rattle.records.specs.declared.Head.the-variants as head
 use Rattle.meaning.specs.Judgement.{sheet, routine}
-use Rattle.reader.specs.declared.Part.{Part}
+use Rattle.reader.specs.declared.Share.{Share}
 use Rattle.reader.specs.declared.Parsed.{Parsed}
 use Rattle.reader.specs.declared.Parsed.the-variants.{Plain, Done, Refused}
 use Rattle.reader.specs.declared.Bounds.{Bounds}
-use Rattle.reader.specs.declared.Run.{Run}
+use Rattle.reader.specs.declared.Progress.{Progress}
 use Rattle.reader.specs.Tallies.{noTally, Tells}
 use Rattle.reader.specs.Reader.{recordOf, onParsed, ownerOf, listOf, constructOf, routineOf, Owns}
-use Rattle.reader.specs.Reader.{noBounds, boundsWith, runFrom, runWith, refusal, verdictOf, routinesOf, sheetOf}
+use Rattle.reader.specs.Reader.{noBounds, boundsWith, progressFrom, progressWith, refusal, verdictOf, routinesOf, sheetOf}
 use Rattle.reader.proofs.Lists.{no-loop}
 use Rattle.reader.proofs.Tells.{tells-plain, tells-done}
 
@@ -49,11 +49,11 @@ none-small zero i = omega arith
 none-small (suc n) zero = omega arith
 none-small (suc n) (suc i) = none-small n i
 
-module _ (n : ℕ) (s : List ℕ) (number : ℕ) (b : Bounds) (run : Run) where
+module _ (n : ℕ) (s : List ℕ) (number : ℕ) (b : Bounds) (run : Progress) where
   routines-step : b .count < n →
       routinesOf (n - b .count) s number b run
       ≡ onParsed (routineOf s (b .values) (b .count + 1) (run .at)) (λ k p. refusal (length s) k p b) (λ value over extra mark next.
-      routinesOf (n - (b .count + 1)) s number (boundsWith b value) (runWith run (b .count + 1) number value over next))
+      routinesOf (n - (b .count + 1)) s number (boundsWith b value) (progressWith run (b .count + 1) number value over next))
   unfolding routinesOf
   routines-step h = let e : n - b .count ≡ suc (n - (b .count + 1)) = omega arith in rw e
 
@@ -61,9 +61,9 @@ module _ (n : ℕ) (s : List ℕ) (number : ℕ) (b : Bounds) (run : Run) where
   unfolding routinesOf
   routines-end h = let e : n - b .count ≡ 0 = omega arith in rw e
 
-module _ (n : ℕ) (s lent : List ℕ) (number : ℕ) (none : Bounds) (first : Run) where
+module _ (n : ℕ) (s lent : List ℕ) (number : ℕ) (none : Bounds) (first : Progress) where
   -- So far the routines come to these bounds and this run.
-  pub record Under (marks : List ℕ) (b : Bounds) (run : Run) : Type 0 where
+  pub record Under (marks : List ℕ) (b : Bounds) (run : Progress) : Type 0 where
     pub same : routinesOf (n - b .count) s number b run ≡ routinesOf n s number none first
     pub few : b .count ≤ n
     pub small : (i : ℕ) → getD (b .values) i 0 ≤ 1099511627775
@@ -74,14 +74,14 @@ module _ (n : ℕ) (s lent : List ℕ) (number : ℕ) (none : Bounds) (first : R
   under-none e = rw e (let z : n - 0 ≡ n = omega arith in record { same = rw z; few = omega arith; small = none-small 64; long = refl })
 
   -- One routine more was read: it came to x, and the marks to those after it.
-  pub record Turn (marks : List ℕ) (b : Bounds) (run : Run) (after : List ℕ) (x : Parsed) : Type 0 where
+  pub record Turn (marks : List ℕ) (b : Bounds) (run : Progress) (after : List ℕ) (x : Parsed) : Type 0 where
     pub under : Under marks b run
     pub more : b .count < n
     pub is : routineOf s (b .values) (b .count + 1) (run .at) ≡ x
     pub tells : Tells (length s) (run .at .at) x
     pub long : length after ≡ length marks
 
-module _ {n : ℕ} {s lent : List ℕ} {number : ℕ} {none : Bounds} {first : Run} {marks : List ℕ} {b : Bounds} {run : Run} {after : List ℕ} {x : Parsed}
+module _ {n : ℕ} {s lent : List ℕ} {number : ℕ} {none : Bounds} {first : Progress} {marks : List ℕ} {b : Bounds} {run : Progress} {after : List ℕ} {x : Parsed}
     (t : Turn n s lent number none first marks b run after x) where
   pub turn-long : length after ≡ length lent
   turn-long = t .long ∙ t .under .long
@@ -89,10 +89,10 @@ module _ {n : ℕ} {s lent : List ℕ} {number : ℕ} {none : Bounds} {first : R
   pub turn-refused : {k p : ℕ} → x ≡ Refused k p → routinesOf n s number none first ≡ refusal (length s) k p b
   turn-refused e = rw (← t .under .same, routines-step n s number b run (t .more), t .is ∙ e)
 
-  under-more : {u : Run} (value over : ℕ) (next : Cursor) →
+  under-more : {u : Progress} (value over : ℕ) (next : Cursor) →
       routinesOf (n - b .count) s number b run
-      ≡ routinesOf (n - (b .count + 1)) s number (boundsWith b value) (runWith run (b .count + 1) number value over next) →
-      value ≤ 1099511627775 → u ≡ runWith run (b .count + 1) number value over next →
+      ≡ routinesOf (n - (b .count + 1)) s number (boundsWith b value) (progressWith run (b .count + 1) number value over next) →
+      value ≤ 1099511627775 → u ≡ progressWith run (b .count + 1) number value over next →
       Under n s lent number none first after (record { values = set (b .values) (b .count) value; count = b .count + 1 }) u
   unfolding boundsWith
   under-more value over next step small e = record {
@@ -102,12 +102,12 @@ module _ {n : ℕ} {s lent : List ℕ} {number : ℕ} {none : Bounds} {first : R
     long = turn-long;
   }
 
-  pub turn-plain : {v : ℕ} {next : Cursor} {u : Run} → x ≡ Plain v next → u ≡ runWith run (b .count + 1) number v 0 next →
+  pub turn-plain : {v : ℕ} {next : Cursor} {u : Progress} → x ≡ Plain v next → u ≡ progressWith run (b .count + 1) number v 0 next →
       Under n s lent number none first after (record { values = set (b .values) (b .count) v; count = b .count + 1 }) u
   turn-plain {v} {next} e f =
       under-more v 0 next (rw (routines-step n s number b run (t .more), t .is ∙ e)) (tells-plain e (t .tells) .value) f
 
-  pub turn-done : {p : Part} {u : Run} → x ≡ Done p → u ≡ runWith run (b .count + 1) number (p .value) (p .over) (p .next) →
+  pub turn-done : {p : Share} {u : Progress} → x ≡ Done p → u ≡ progressWith run (b .count + 1) number (p .value) (p .over) (p .next) →
       Under n s lent number none first after (record { values = set (b .values) (b .count) (p .value); count = b .count + 1 }) u
   turn-done {p} e f =
       under-more (p .value) (p .over) (p .next) (rw (routines-step n s number b run (t .more), t .is ∙ e)) (tells-done e (t .tells) .value) f
@@ -119,6 +119,6 @@ module _ (s : List ℕ) (number : ℕ) where
   sheet-refused e = rw e
 
   pub sheet-good : {r : Read} → recordOf s sheet (record { at = 0 }) ≡ head.Good r →
-      sheetOf s number ≡ routinesOf (r .second) s number noBounds (runFrom (length s) (r .next))
+      sheetOf s number ≡ routinesOf (r .second) s number noBounds (progressFrom (length s) (r .next))
   unfolding sheetOf
   sheet-good e = rw e

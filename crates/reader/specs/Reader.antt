@@ -16,7 +16,7 @@ use Rattle.reader.specs.declared.Parsed.{Parsed}
 use Rattle.reader.specs.declared.Parsed.the-variants.{Plain, Done, Refused}
 use Rattle.reader.specs.declared.Tally.{Tally}
 use Rattle.reader.specs.declared.Bounds.{Bounds}
-use Rattle.reader.specs.declared.Run.{Run}
+use Rattle.reader.specs.declared.Progress.{Progress}
 use Rattle.reader.specs.declared.Report.{Report}
 use Rattle.reader.specs.declared.Answer.the-variants as answer
 use Rattle.reader.specs.Tallies.{chargesOf, noTally, withOf, keptOf, part, closeOf, heaviest, heaviestSum, Counts}
@@ -109,11 +109,11 @@ unfoldable pub boundsWith : Bounds → ℕ → Bounds
 boundsWith b v = record { values = set (b .values) (b .count) v; count = b .count + 1 }
 
 -- a sheet of so many bytes, before its routines and after one more, where the part of a routine is asked for by number
-unfoldable pub runFrom : ℕ → Cursor → Run
-runFrom long c = record { last = 0; over = 0; start = long; end = long; at = c }
+unfoldable pub progressFrom : ℕ → Cursor → Progress
+progressFrom long c = record { last = 0; over = 0; start = long; end = long; at = c }
 
-unfoldable pub runWith : Run → ℕ → ℕ → ℕ → ℕ → Cursor → Run
-runWith run own number value over next = record {
+unfoldable pub progressWith : Progress → ℕ → ℕ → ℕ → ℕ → Cursor → Progress
+progressWith run own number value over next = record {
   last = value;
   over = pick (eqb (run .over) 0) over (run .over);
   start = pick (eqb own number) (run .at .at) (run .start);
@@ -126,7 +126,7 @@ unfoldable pub refusal : ℕ → ℕ → ℕ → Bounds → Report
 refusal long number place b = record { answer = answer.Refused number place; bounds = b; start = long; end = long }
 
 -- EXTRA, then TOO BIG, then the bound of the last routine
-unfoldable pub verdictOf : ℕ → Bounds → Run → Report
+unfoldable pub verdictOf : ℕ → Bounds → Progress → Report
 verdictOf long b run =
     pick (ltb (run .at .at) long) (refusal long 11 (run .at .at) b)
     (pick (eqb (run .over) 0)
@@ -134,17 +134,17 @@ verdictOf long b run =
     (refusal long 12 (run .over) b))
 
 -- n routines more
-unfoldable pub routinesOf : ℕ → List ℕ → ℕ → Bounds → Run → Report
+unfoldable pub routinesOf : ℕ → List ℕ → ℕ → Bounds → Progress → Report
 routinesOf zero s number b run = verdictOf (length s) b run
 routinesOf (suc n) s number b run =
     onParsed (routineOf s (b .values) (b .count + 1) (run .at)) (λ k p. refusal (length s) k p b) (λ value over extra mark next.
-    routinesOf n s number (boundsWith b value) (runWith run (b .count + 1) number value over next))
+    routinesOf n s number (boundsWith b value) (progressWith run (b .count + 1) number value over next))
 
 -- the sheet record, then its routines
 unfoldable pub sheetOf : List ℕ → ℕ → Report
 sheetOf s number =
     onHead (recordOf s sheet (record { at = 0 })) (λ k p. refusal (length s) k p noBounds) (λ r.
-    routinesOf (r .second) s number noBounds (runFrom (length s) (r .next)))
+    routinesOf (r .second) s number noBounds (progressFrom (length s) (r .next)))
 
 -- TOO LONG comes first
 unfoldable pub readOf : List ℕ → ℕ → Report

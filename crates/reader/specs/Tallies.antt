@@ -4,10 +4,10 @@ use Prim.Native.Nat.{ℕ, _+_, _-_, _*_, _/_, _%_, _≤_, min, max}
 use mathlib.Core.Path.{_≡_}
 use mathlib.Core.Bool.{Bool, true, false, not}
 use mathlib.Core.List.{List, [], _∷_, _++_}
-use lib.Dec.{leb, ltb, eqb}
+use lib.Dec.{ltb, eqb}
 use Rattle.meaning.specs.Format.{pick}
 use Rattle.records.specs.declared.Cursor.{Cursor}
-use Rattle.reader.specs.declared.Part.{Part}
+use Rattle.reader.specs.declared.Share.{Share}
 use Rattle.reader.specs.declared.Parsed.{Parsed}
 use Rattle.reader.specs.declared.Parsed.the-variants.{Plain, Done, Refused}
 use Rattle.reader.specs.declared.Tally.{Tally}
@@ -56,7 +56,7 @@ unfoldable pub keptOf : ℕ → ℕ → ℕ → ℕ → List ℕ → List ℕ
 keptOf kind i value mark marks = pick (eqb mark 0) marks (pick (isBranch kind i) (marks ++ ((value * 1048576 + (mark - 1)) ∷ [])) marks)
 
 -- a record ends
-abbrev pub part : ℕ → ℕ → ℕ → ℕ → Cursor → Part
+abbrev pub part : ℕ → ℕ → ℕ → ℕ → Cursor → Share
 part value over extra mark next = record { value = value; over = over; extra = extra; mark = mark; next = next }
 
 unfoldable pub endedOf : ℕ → ℕ → ℕ → ℕ → ℕ → Cursor → Parsed

@@ -1,7 +1,6 @@
 -- How the children of a record stand to a scope, and the passes that the counts allow them, in the code's shape.
 -- Standings are numbers (records, Records.reachOf); products are held at 1,000,000, since no limit is higher.
 use Prim.Native.Nat.{ℕ, _+_, _*_, min}
-use mathlib.Core.Bool.{Bool, true, false}
 use lib.Dec.{eqb}
 use Rattle.meaning.specs.Format.{pick}
 use Rattle.reader.specs.declared.Ways.{Ways}

@@ -10,7 +10,7 @@ ghost use Rattle.meaning.specs.Format.{pick};
 ghost use Rattle.reader.specs.Tallies.{valueCap, chargeOf, chargesOf, counted, isBranch, noTally, withOf, keptOf, endedOf, closeOf};
 ghost use Rattle.reader.specs.Tallies.{heaviest, heaviestSum, Counts, Held, Tells};
 ghost use Rattle.reader.specs.Ways.{leadOf, bodyOf, innerOf, ways, waysOf, wayOf};
-ghost use Rattle.reader.specs.Reader.{aloneOf, Alone, listOf, constructOf, routineOf, noBounds, runFrom, runWith, refusal, verdictOf, routinesOf, sheetOf, readOf};
+ghost use Rattle.reader.specs.Reader.{aloneOf, Alone, listOf, constructOf, routineOf, noBounds, progressFrom, progressWith, refusal, verdictOf, routinesOf, sheetOf, readOf};
 ghost use Rattle.reader.specs.Reader.{Lent, Owns, ownerOf};
 
 // The answer: the task's bound, or a refusal's number and place.
@@ -36,7 +36,7 @@ pub struct Report {
 
 // What an ended construct tells the record that owns it. over: where the first record ended with too large a value, 0 for none.
 // extra: what its markers add to a scope around it. mark: 0, or the limit + 1 of a marker or of a marked branch.
-pub struct Part {
+pub struct Share {
     pub value: u64,
     pub over: usize,
     pub extra: u64,
@@ -47,7 +47,7 @@ pub struct Part {
 // Plain: a value, and nothing else to tell.
 pub enum Parsed {
     Plain(u64, Cursor),
-    Done(Part),
+    Done(Share),
     Refused(u64, usize),
 }
 
@@ -71,7 +71,7 @@ pub struct Tally {
 }
 
 // What the routines read so far come to, besides their bounds.
-pub struct Run {
+pub struct Progress {
     pub last: u64,
     pub over: usize,
     pub start: usize,
@@ -284,7 +284,7 @@ impl Tally {
     }
 
     // One child more. A marked branch is kept for the end of its alternative.
-    fn with(self, kind: u64, count: u64, i: u64, p: Part) -> Tally
+    fn with(self, kind: u64, count: u64, i: u64, p: Share) -> Tally
         requires { ⌜ Counts kind count ⌝ }
         requires { ⌜ Held kind i self ⌝ }
         requires { ⌜ (i + 1) * heaviest kind ≤ heaviestSum ⌝ }
@@ -306,7 +306,7 @@ impl Tally {
 }
 
 // A marked branch kept after those that are held: its value and its limit. The number then held.
-fn keep(marks: &mut [u64], held: usize, kind: u64, i: u64, p: Part) -> usize
+fn keep(marks: &mut [u64], held: usize, kind: u64, i: u64, p: Share) -> usize
     requires { ⌜ (held < length (now marks)) × (p .value ≤ 1099511627775) × (p .mark ≤ 1000001) ⌝ }
     ensures { λ r. ⌜ r ≡ length (keptOf kind i (p .value) (p .mark) (take held (now (marks .entry)))) ⌝ }
     ensures { λ r. ⌜ take r (now (marks .exit)) ≡ keptOf kind i (p .value) (p .mark) (take held (now (marks .entry))) ⌝ }
@@ -327,7 +327,7 @@ fn ended(value: u64, over: usize, extra: u64, mark: u64, start: usize, next: Cur
     ensures { λ r. ⌜ r ≡ endedOf value over extra mark start next ⌝ }
 {
     if over != 0 {
-        return Parsed::Done(Part {
+        return Parsed::Done(Share {
             value: 0,
             over,
             extra,
@@ -336,7 +336,7 @@ fn ended(value: u64, over: usize, extra: u64, mark: u64, start: usize, next: Cur
         });
     }
     if 1099511627775 < value {
-        return Parsed::Done(Part {
+        return Parsed::Done(Share {
             value: 0,
             over: start,
             extra,
@@ -345,7 +345,7 @@ fn ended(value: u64, over: usize, extra: u64, mark: u64, start: usize, next: Cur
         });
     }
     if extra != 0 {
-        return Parsed::Done(Part {
+        return Parsed::Done(Share {
             value,
             over: 0,
             extra,
@@ -354,7 +354,7 @@ fn ended(value: u64, over: usize, extra: u64, mark: u64, start: usize, next: Cur
         });
     }
     if mark != 0 {
-        return Parsed::Done(Part {
+        return Parsed::Done(Share {
             value,
             over: 0,
             extra,
@@ -403,7 +403,7 @@ fn alone(r: Read, bounds: &[u64; 64]) -> Parsed
         }
         9 => {
             let mark = r.first + 1;
-            Parsed::Done(Part {
+            Parsed::Done(Share {
                 value: r.second,
                 over: 0,
                 extra: 0,
@@ -570,12 +570,12 @@ impl Bounds {
     }
 }
 
-impl Run {
+impl Progress {
     // Before the first routine of a sheet of so many bytes.
-    fn from(long: usize, c: Cursor) -> Run
-        ensures { λ r. ⌜ r ≡ runFrom long c ⌝ }
+    fn from(long: usize, c: Cursor) -> Progress
+        ensures { λ r. ⌜ r ≡ progressFrom long c ⌝ }
     {
-        Run {
+        Progress {
             last: 0,
             over: 0,
             start: long,
@@ -585,11 +585,11 @@ impl Run {
     }
 
     // One routine more; where it is the one asked for, its places.
-    fn with(self, own: u64, number: u64, value: u64, over: usize, next: Cursor) -> Run
-        ensures { λ r. ⌜ r ≡ runWith self own number value over next ⌝ }
+    fn with(self, own: u64, number: u64, value: u64, over: usize, next: Cursor) -> Progress
+        ensures { λ r. ⌜ r ≡ progressWith self own number value over next ⌝ }
     {
         let at = self.at;
-        Run {
+        Progress {
             last: value,
             over: choose_place(self.over == 0, over, self.over),
             start: choose_place(own == number, at.at, self.start),
@@ -612,7 +612,7 @@ fn refused(long: usize, number: u64, place: usize, bounds: Bounds) -> Report
 }
 
 // EXTRA, then TOO BIG, then the last routine's bound.
-fn verdict(long: usize, bounds: Bounds, run: Run) -> Report
+fn verdict(long: usize, bounds: Bounds, run: Progress) -> Report
     ensures { λ r. ⌜ r ≡ verdictOf long bounds run ⌝ }
 {
     let past = run.at.at;
@@ -633,10 +633,10 @@ fn verdict(long: usize, bounds: Bounds, run: Run) -> Report
 // The n routines of a sheet, one after another, each with the bounds of those before.
 fn routines(s: &[u8], c: Cursor, n: u64, number: u64, marks: &mut [u64]) -> Report
     requires { ⌜ (n ≤ 64) × (length (now s) ≤ 8 * length (now marks)) ⌝ }
-    ensures { λ r. ⌜ r ≡ routinesOf n (now (s .entry)) number noBounds (runFrom (length (now (s .entry))) c) ⌝ }
+    ensures { λ r. ⌜ r ≡ routinesOf n (now (s .entry)) number noBounds (progressFrom (length (now (s .entry))) c) ⌝ }
 {
     let mut b = Bounds::none();
-    let mut run = Run::from(s.len(), c);
+    let mut run = Progress::from(s.len(), c);
     while b.count < n {
         let own = b.count + 1;
         let at = run.at;

@@ -1,8 +1,8 @@
--- `Run::with`: the three choices are those of `runWith`.
+-- `Progress::with`: the three choices are those of `progressWith`.
 use borrow.Author.Needs.{needs}
-use Rattle.reader.specs.Reader.{runWith}
-use Rattle.reader.proofs.Run.with.Statement.{statement}
-use Rattle.reader.proofs.Run.with.Tie as tie
+use Rattle.reader.specs.Reader.{progressWith}
+use Rattle.reader.proofs.Progress.with.Statement.{statement}
+use Rattle.reader.proofs.Progress.with.Tie as tie
 
 choose-place-requires : tie.Need-choose-place-requires
 choose-place-requires c κs = search needs
@@ -14,7 +14,7 @@ choose-place-requires-3 : tie.Need-choose-place-requires-3
 choose-place-requires-3 c κs = search needs
 
 returns : tie.Need-returns
-unfolding runWith
+unfolding progressWith
 returns c = rw (c .choose-place3 .ensures, c .before .choose-place2 .ensures, c .before .before .choose-place .ensures)
 
 pub with-spec : {M : Type 1} → statement M
