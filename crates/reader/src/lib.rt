@@ -7,11 +7,20 @@ ghost use Prim.Native.Nat.{_+_, _*_, _≤_, _<_, min, max};
 ghost use mathlib.Core.List.{[]};
 ghost use lib.ListN.{length, take};
 ghost use Rattle.meaning.specs.Format.{pick};
-ghost use Rattle.reader.specs.Tallies.{valueCap, chargeOf, chargesOf, counted, isBranch, noTally, withOf, keptOf, endedOf, closeOf};
+ghost use Rattle.reader.specs.Tallies.{valueCap, chargeOf, chargesOf, counted, isBranch, noTally, withOf, keptOf, part, endedOf, closeOf};
 ghost use Rattle.reader.specs.Tallies.{heaviest, heaviestSum, Counts, Held, Tells};
 ghost use Rattle.reader.specs.Ways.{leadOf, bodyOf, innerOf, ways, waysOf, wayOf};
 ghost use Rattle.reader.specs.Reader.{aloneOf, Alone, listOf, constructOf, routineOf, noBounds, progressFrom, progressWith, refusal, verdictOf, routinesOf, sheetOf, readOf};
 ghost use Rattle.reader.specs.Reader.{Lent, Owns, ownerOf};
+
+// The most that a value may be; one more, at which what markers add is held; and the highest limit of a marker, at which passes are held.
+const VALUE_LIMIT: u64 = 1099511627775;
+
+const VALUE_CAP: u64 = 1099511627776;
+
+const HIGHEST_LIMIT: u64 = 1000000;
+// Where a marked branch is kept as one number: more than the highest limit.
+const LIMIT_ROOM: u64 = 1048576;
 
 // The answer: the task's bound, or a refusal's number and place.
 pub enum Answer {
@@ -123,8 +132,8 @@ fn charges(marks: &[u64], product: u64, plain: u64) -> u64
     let mut i: usize = 0;
     while i < marks.len() {
         let both = marks[i];
-        let more = charge(product, both % 1048576, both / 1048576, plain);
-        sum = at_most(1099511627776, sum + more);
+        let more = charge(product, both % LIMIT_ROOM, both / LIMIT_ROOM, plain);
+        sum = at_most(VALUE_CAP, sum + more);
         i += 1;
     }
     sum
@@ -159,7 +168,7 @@ fn inner_of(count: u64, scope: u64, product: u64) -> u64
     if scope == 1 {
         return count;
     }
-    at_most(1000000, product * count)
+    at_most(HIGHEST_LIMIT, product * count)
 }
 
 fn stands(lead: u64, third: u64, others: u64, branches: u64, inner: u64) -> Ways
@@ -294,7 +303,7 @@ impl Tally {
     {
         let mut t = self;
         t.over = choose_place(t.over == 0, p.over, t.over);
-        t.extra = at_most(1099511627776, t.extra + p.extra);
+        t.extra = at_most(VALUE_CAP, t.extra + p.extra);
         if is_branch(kind, i) {
             t.top = choose(p.mark == 0, larger(t.top, p.value), t.top);
             return t;
@@ -316,10 +325,22 @@ fn keep(marks: &mut [u64], held: usize, kind: u64, i: u64, p: Share) -> usize
         return held;
     }
     if is_branch(kind, i) {
-        marks[held] = p.value * 1048576 + (p.mark - 1);
+        marks[held] = p.value * LIMIT_ROOM + (p.mark - 1);
         return held + 1;
     }
     held
+}
+
+fn done(value: u64, over: usize, extra: u64, mark: u64, next: Cursor) -> Parsed
+    ensures { λ r. ⌜ r ≡ Parsed.Done (part value over extra mark next) ⌝ }
+{
+    Parsed::Done(Share {
+        value,
+        over,
+        extra,
+        mark,
+        next,
+    })
 }
 
 // A record ends with a value, unless a record before it has ended with too large a one.
@@ -327,40 +348,16 @@ fn ended(value: u64, over: usize, extra: u64, mark: u64, start: usize, next: Cur
     ensures { λ r. ⌜ r ≡ endedOf value over extra mark start next ⌝ }
 {
     if over != 0 {
-        return Parsed::Done(Share {
-            value: 0,
-            over,
-            extra,
-            mark,
-            next,
-        });
+        return done(0, over, extra, mark, next);
     }
-    if 1099511627775 < value {
-        return Parsed::Done(Share {
-            value: 0,
-            over: start,
-            extra,
-            mark,
-            next,
-        });
+    if VALUE_LIMIT < value {
+        return done(0, start, extra, mark, next);
     }
     if extra != 0 {
-        return Parsed::Done(Share {
-            value,
-            over: 0,
-            extra,
-            mark,
-            next,
-        });
+        return done(value, 0, extra, mark, next);
     }
     if mark != 0 {
-        return Parsed::Done(Share {
-            value,
-            over: 0,
-            extra,
-            mark,
-            next,
-        });
+        return done(value, 0, extra, mark, next);
     }
     Parsed::Plain(value, next)
 }
@@ -379,7 +376,7 @@ fn close(
     requires { ⌜ (first ≤ 4294967295) × (more ≤ valueCap) ⌝ }
     ensures { λ r. ⌜ r ≡ closeOf kind first second t more start next ⌝ }
 {
-    let extra = at_most(1099511627776, t.extra + more);
+    let extra = at_most(VALUE_CAP, t.extra + more);
     let value = t.sum + t.top + choose(kind == 7, first, 0);
     if second == 1 {
         return ended(value + extra, t.over, 0, t.mark, start, next);
@@ -403,13 +400,7 @@ fn alone(r: Read, bounds: &[u64; 64]) -> Parsed
         }
         9 => {
             let mark = r.first + 1;
-            Parsed::Done(Share {
-                value: r.second,
-                over: 0,
-                extra: 0,
-                mark,
-                next,
-            })
+            done(r.second, 0, 0, mark, next)
         }
         _ => Parsed::Plain(0, next),
     }
