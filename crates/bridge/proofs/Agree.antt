@@ -41,13 +41,13 @@ pub record Agrees (known : Known) (product at : ℕ) (c : Construct) (past v o e
   pub over : Over (tooBig (ended known at c)) o
   pub amount : tooBig (ended known at c) ≡ none → v ≡ value known c
   pub small : v ≤ valueLimit
-  pub extra : tooBig (ended known at c) ≡ none → e ≡ min valueCap (total (times product (charges known c)))
+  pub added : tooBig (ended known at c) ≡ none → e ≡ min valueCap (total (times product (charges known c)))
   pub marked : m ≡ markNumber (either (itself c) (mark c))
 
 pub data Same (known : Known) (product at : ℕ) : Parsed → Reading Construct → Type 0 where
   both-refused : {number place : ℕ} → Same known product at (Refused number place) (refused number place)
   read-plain : {c : Construct} {past v : ℕ} {next : Cursor} → Agrees known product at c past v 0 0 0 next → Same known product at (Plain v next) (found c past)
-  read-done : {c : Construct} {past : ℕ} {p : Share} → Agrees known product at c past (p .value) (p .over) (p .extra) (p .mark) (p .next) →
+  read-done : {c : Construct} {past : ℕ} {p : Share} → Agrees known product at c past (p .value) (p .over) (p .added) (p .mark) (p .next) →
       Same known product at (Done p) (found c past)
 
 -- the bounds that are lent are those of the routines before

@@ -26,7 +26,7 @@ use Rattle.bridge.proofs.Agree.{standingOf, occurs, Agrees, Same}
 use Rattle.bridge.proofs.Standings.{same-both, way-condition, way-branch, alternative-inner}
 use Rattle.bridge.proofs.Ends.{big-end, ended-law}
 use Rattle.bridge.proofs.Charges.{total-append, unreached, Branch, Each, keptMark, keptIn, charges-law}
-use Rattle.bridge.proofs.Children.{Adds, no-more, one-more, none-first, adds-over, adds-extra, kept-law, branch-mark, branches-same, branches-top, branches-kept}
+use Rattle.bridge.proofs.Children.{Adds, no-more, one-more, none-first, adds-over, adds-added, kept-law, branch-mark, branches-same, branches-top, branches-kept}
 use Rattle.bridge.proofs.Marks.{no-marker, mark-limited, unmarked}
 use Rattle.bridge.proofs.Readers.{Alike, Sure, then-assoc, next-child}
 
@@ -108,13 +108,13 @@ module _ (known : Known) (s : List ℕ) (before own : ℕ) (number : own ≡ bef
               let top = branches-top adds (omega arith) each w in
               let amount = a .amount y in
               omega arith;
-          extra = λ z.
+          added = λ z.
               let w = none-first known (start + 8) d c bs (x .span .long) z .1 in
               let top : t .top ≡ largest known bs = branches-top adds (omega arith) each w ∙ omega arith in
               let kept : marks ≡ keptIn known bs = branches-kept adds (omega arith) each w ∙ rw none-kept in
               let paid : chargesOf held (t .top) 0 marks ≡ min valueCap (pays product (markedIn known (largest known bs) bs)) =
               rw (top, kept) (charges-law product held (largest known bs) cap known bs each) in
-              let inside = adds-extra all z 0 refl in
+              let inside = adds-added all z 0 refl in
               let both = total-append product (charges known c) (chargesIn known bs) in
               let free = unreached known before depth product nowhere c refl (x .legal) in
               rw (mul-one product) (omega arith);

@@ -53,14 +53,14 @@ module _ {known : Known} {kind count inner : ℕ} where
       (adds-over rest (also a (tooBig (ended known at c))) (over-also a (tooBig (ended known at c)) (t .over) o h (λ _. g .over)))
 
   -- what their markers add
-  pub adds-extra : {i at past : ℕ} {t t' : Tally} {marks marks' : List ℕ} {cs : Constructs} → Adds known kind count inner i at t marks cs past t' marks' →
-      tooBig (endedIn known at cs) ≡ none → (u : ℕ) → t .extra ≡ min valueCap u → t' .extra ≡ min valueCap (u + total (times inner (chargesIn known cs)))
+  pub adds-added : {i at past : ℕ} {t t' : Tally} {marks marks' : List ℕ} {cs : Constructs} → Adds known kind count inner i at t marks cs past t' marks' →
+      tooBig (endedIn known at cs) ≡ none → (u : ℕ) → t .added ≡ min valueCap u → t' .added ≡ min valueCap (u + total (times inner (chargesIn known cs)))
   unfolding withOf value times total
-  adds-extra no-more z u h = omega arith
-  adds-extra {at = at} (one-more {d = d} {c = c} {cs = cs} g q rest) z u h =
+  adds-added no-more z u h = omega arith
+  adds-added {at = at} (one-more {d = d} {c = c} {cs = cs} g q rest) z u h =
       let (x, y) = none-first known at d c cs q z in
-      let e = g .extra x in
-      adds-extra rest y (u + total (times inner (charges known c))) (omega arith) ∙ rw (total-append inner (charges known c) (chargesIn known cs)) (omega arith)
+      let e = g .added x in
+      adds-added rest y (u + total (times inner (charges known c))) (omega arith) ∙ rw (total-append inner (charges known c) (chargesIn known cs)) (omega arith)
 
   -- of a record that is no alternative
   module _ (plain : (i : ℕ) → isBranch kind i ≡ false) where

@@ -36,7 +36,7 @@ leaf : (known : Known) (product at next v m : ℕ) (c : Construct) → v ≡ val
 unfolding tooBig times total
 leaf known product at next v m c e h alone free marked =
     let small : tooBig (ended known at c) ≡ none = rw (alone, ← e, le-ltb valueLimit v h) in
-    record { reached = refl; over = rw small; amount = λ z. e; small = h; extra = λ z. rw free; marked = marked }
+    record { reached = refl; over = rw small; amount = λ z. e; small = h; added = λ z. rw free; marked = marked }
 
 -- a record as the code holds it
 abbrev readOf : Record → ℕ → Read

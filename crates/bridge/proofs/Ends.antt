@@ -70,29 +70,29 @@ pub record Closes (known : Known) (product at : ℕ) (c : Construct) (inner : Op
   pub listed : tooBig (ended known at c) ≡ also inner (check at (value known c))
   pub first : Over inner over
   pub amount : inner ≡ none → min valueCap v ≡ min valueCap (value known c)
-  pub extra : inner ≡ none → e ≡ min valueCap (total (times product (charges known c)))
+  pub added : inner ≡ none → e ≡ min valueCap (total (times product (charges known c)))
   pub marked : m ≡ markNumber (either (itself c) (mark c))
 
 module _ (known : Known) (product at : ℕ) (c : Construct) (v over e m past : ℕ) (next : Cursor) (place : 1 ≤ at) (reached : next .at ≡ past) where
   -- where some record is too big, nothing more is told than its place
   big : (n o : ℕ) → (n ≡ o) × (1 ≤ o) → m ≡ markNumber (either (itself c) (mark c)) → tooBig (ended known at c) ≡ some o → Agrees known product at c past 0 n e m next
-  big n o h marked q = record { reached = reached; over = rw q h; amount = λ z. none-some z; small = omega arith; extra = λ z. none-some z; marked = marked }
+  big n o h marked q = record { reached = reached; over = rw q h; amount = λ z. none-some z; small = omega arith; added = λ z. none-some z; marked = marked }
     where
       none-some : {a b : ℕ} → tooBig (ended known at c) ≡ none → a ≡ b
       none-some z = let clash : _≡_ {A = ℕ} 0 1 = cc in absurd (omega arith)
 
-  -- where none is, its value is told, and its extra and mark unless both are 0
+  -- where none is, its value is told, and its added and mark unless both are 0
   module _ (amount : v ≡ value known c) (low : v ≤ valueLimit) (q : tooBig (ended known at c) ≡ none) where
     small : (e' m' : ℕ) → e' ≡ min valueCap (total (times product (charges known c))) → m' ≡ markNumber (either (itself c) (mark c)) →
         Agrees known product at c past v 0 e' m' next
-    small e' m' extra marked = record { reached = reached; over = rw q; amount = λ z. amount; small = low; extra = λ z. extra; marked = marked }
+    small e' m' added marked = record { reached = reached; over = rw q; amount = λ z. amount; small = low; added = λ z. added; marked = marked }
 
     shortened : e ≡ min valueCap (total (times product (charges known c))) → m ≡ markNumber (either (itself c) (mark c)) →
         (t : Bool) → pick (eqb e 0) (eqb m 0) false ≡ t → Same known product at (pick t (Plain v next) (Done (part v 0 e m next))) (found c past)
-    shortened extra marked true u =
+    shortened added marked true u =
         let (x, y) = pick-true (eqb e 0) (eqb m 0) u in
-        read-plain (small 0 0 (sym (eqb-true e 0 x) ∙ extra) (sym (eqb-true m 0 y) ∙ marked))
-    shortened extra marked false u = read-done (small e m extra marked)
+        read-plain (small 0 0 (sym (eqb-true e 0 x) ∙ added) (sym (eqb-true m 0 y) ∙ marked))
+    shortened added marked false u = read-done (small e m added marked)
 
   pub ended-law : (inner : Option ℕ) → Closes known product at c inner v over e m → Same known product at (endedOf v over e m at next) (found c past)
   unfolding endedOf
@@ -109,4 +109,4 @@ module _ (known : Known) (product at : ℕ) (c : Construct) (v over e m past : �
           let a = h .amount refl in
           let x = ltb-false valueLimit v t in
           let y = ltb-false valueLimit (value known c) u in
-          shortened (omega arith) x (h .listed ∙ rw u) (h .extra refl) (h .marked) (pick (eqb e 0) (eqb m 0) false) refl
+          shortened (omega arith) x (h .listed ∙ rw u) (h .added refl) (h .marked) (pick (eqb e 0) (eqb m 0) false) refl

@@ -22,7 +22,7 @@ use Rattle.bridge.proofs.Agree.{standingOf, occurs, markNumber, either,
 use Rattle.bridge.proofs.Standings.{body-occurs, body-law, way-fixed, downTo, inner-law}
 use Rattle.bridge.proofs.Ends.{big-end, ended-law}
 use Rattle.bridge.proofs.Charges.{total-append, total-times, unreached, Each}
-use Rattle.bridge.proofs.Children.{Adds, no-more, one-more, countedIn, adds-over, adds-extra, adds-sum, adds-same, adds-mark}
+use Rattle.bridge.proofs.Children.{Adds, no-more, one-more, countedIn, adds-over, adds-added, adds-sum, adds-same, adds-mark}
 use Rattle.bridge.proofs.Marks.{unmarked}
 use Rattle.bridge.proofs.Readers.{Alike, Sure, next-child}
 
@@ -42,27 +42,27 @@ module _ (known : Known) (kind count held product start e past : ℕ) (c b : Con
       (tooBig (endedIn known e cs) ≡ none → min valueCap v ≡ min valueCap (value known c)) →
       (tooBig (endedIn known e cs) ≡ none → x ≡ min valueCap (total (times product (charges known c)))) →
       Same known product start (endedOf v (t .over) x (t .mark) start next) (found c past)
-  loop-ends scope v x k adds amount extra = ended-law known product start c _ _ _ _ past next place q (tooBig (endedIn known e cs)) (record {
+  loop-ends scope v x k adds amount added = ended-law known product start c _ _ _ _ past next place q (tooBig (endedIn known e cs)) (record {
     listed = ap tooBig (k .listed) ∙ big-end (endedIn known e cs) known start c;
     first = adds-over adds none refl;
     amount = amount;
-    extra = extra;
+    added = added;
     marked = adds-mark plain adds (k .children) ∙ sym (k .bare);
   })
 
   -- a scope keeps what its markers add, any other loop hands it on
   loop-closed : (scope : Bool) → Ending known kind count product start e scope c b cs →
       Adds known kind count (downTo scope count product) 0 e noTally [] cs past t marks → Same known product start
-      (pick scope (endedOf (valueOf kind count t + min valueCap (t .extra + chargesOf held (t .top) 0 marks)) (t .over) 0 (t .mark) start next)
-      (endedOf (valueOf kind count t) (t .over) (min valueCap (t .extra + chargesOf held (t .top) 0 marks)) (t .mark) start next)) (found c past)
+      (pick scope (endedOf (valueOf kind count t + min valueCap (t .added + chargesOf held (t .top) 0 marks)) (t .over) 0 (t .mark) start next)
+      (endedOf (valueOf kind count t) (t .over) (min valueCap (t .added + chargesOf held (t .top) 0 marks)) (t .mark) start next)) (found c past)
   unfolding chargesOf times total
   loop-closed true k adds =
       let (x, y) = adds-same plain adds in
-      loop-ends true _ _ k adds (λ z. rw (h, x, y, adds-sum plain adds z, adds-extra adds z 0 refl, k .only, k .table) (omega arith)) (λ z. rw (k .handed))
+      loop-ends true _ _ k adds (λ z. rw (h, x, y, adds-sum plain adds z, adds-added adds z 0 refl, k .only, k .table) (omega arith)) (λ z. rw (k .handed))
   loop-closed false k adds =
       let (x, y) = adds-same plain adds in
       loop-ends false _ _ k adds (λ z. rw (h, x, adds-sum plain adds z, k .table) (omega arith))
-      (λ z. rw (y, adds-extra adds z 0 refl, k .only, k .handed, total-times product count (charges known b)) (omega arith))
+      (λ z. rw (y, adds-added adds z 0 refl, k .only, k .handed, total-times product count (charges known b)) (omega arith))
 
 body-bare : (scope : Bool) (r : Reach) → ((asBody scope r) .lead ≡ false) × ((asBody scope r) .branch ≡ false)
 body-bare true r = (refl, refl)
@@ -166,7 +166,7 @@ module _ (known : Known) (s : List ℕ) (before own : ℕ) (number : own ≡ bef
         listed = ap tooBig (simp append-assoc) ∙ big-end inside known start c;
         first = adds-over adds none refl;
         amount = λ z. rw (x, adds-sum (λ _. refl) adds z) (omega arith);
-        extra = λ z. rw (y, adds-extra adds z 0 refl, total-append, unreached known before depth 0 nowhere o refl h);
+        added = λ z. rw (y, adds-added adds z 0 refl, total-append, unreached known before depth 0 nowhere o refl h);
         marked = adds-mark (λ _. refl) adds (bare, tt);
       })
 

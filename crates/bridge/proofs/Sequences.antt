@@ -23,7 +23,7 @@ use Rattle.bridge.proofs.Agree.{standingOf, occurs, markNumber, either,
 use Rattle.bridge.proofs.Standings.{first-occurs, way-first, way-later}
 use Rattle.bridge.proofs.Ends.{big-end, ended-law}
 use Rattle.bridge.proofs.Charges.{Each}
-use Rattle.bridge.proofs.Children.{Adds, no-more, one-more, countedIn, adds-over, adds-extra, adds-sum, adds-same, adds-mark}
+use Rattle.bridge.proofs.Children.{Adds, no-more, one-more, countedIn, adds-over, adds-added, adds-sum, adds-same, adds-mark}
 use Rattle.bridge.proofs.Marks.{no-mark, unmarked}
 use Rattle.bridge.proofs.Readers.{Alike, Sure, then-assoc, next-child}
 
@@ -90,7 +90,7 @@ module _ (known : Known) (s : List ℕ) (before own : ℕ) (number : own ≡ bef
         listed = big-end (endedIn known (start + 8) cs) known start (sequence cs);
         first = adds-over adds none refl;
         amount = λ z. rw (adds-sum (λ _. refl) adds z, all-counted known n 0 cs, x) (omega arith);
-        extra = λ z. rw (adds-extra adds z 0 refl, y) (omega arith);
+        added = λ z. rw (adds-added adds z 0 refl, y) (omega arith);
         marked = led-mark adds led;
       })
 

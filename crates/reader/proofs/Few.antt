@@ -26,7 +26,7 @@ pub record Few (r : Report) : Type 0 where
 few-parsed : (x : Parsed) (g : ℕ → ℕ → Report) (f : ℕ → ℕ → ℕ → ℕ → Cursor → Report) → ((k p : ℕ) → Few (g k p)) →
     ((v o e m : ℕ) (next : Cursor) → Few (f v o e m next)) → Few (onParsed x g f)
 few-parsed (Plain v next) g f h k = k v 0 0 0 next
-few-parsed (Done p) g f h k = k (p .value) (p .over) (p .extra) (p .mark) (p .next)
+few-parsed (Done p) g f h k = k (p .value) (p .over) (p .added) (p .mark) (p .next)
 few-parsed (Refused number place) g f h k = h number place
 
 few-head : (x : Head) (g : ℕ → ℕ → Report) (f : Read → Report) → ((k p : ℕ) → Few (g k p)) → ((r : Read) → x ≡ head.Good r → Few (f r)) →

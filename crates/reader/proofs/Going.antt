@@ -83,7 +83,7 @@ module _ (read : ChildReader) (o : Owner) (s lent : List ℕ) (n base : ℕ) (fr
       let z : n - 0 ≡ n = omega arith in
       record {
         same = rw (e, z);
-        tally = record { sum = omega arith; top = omega arith; extra = omega arith; mark = omega arith };
+        tally = record { sum = omega arith; top = omega arith; added = omega arith; mark = omega arith };
         count = omega arith;
         above = omega arith;
         room = h;
@@ -141,7 +141,7 @@ module _ {read : ChildReader} {o : Owner} {s lent : List ℕ} {n base : ℕ} {fr
 
   -- any other child; where it is a marked branch, one mark more is kept
   pub child-done : {p : Share} {u : Tally} {holds : ℕ} {last : List ℕ} → x ≡ Done p →
-      (u ≡ withOf (o .kind) (o .first) i t (p .value) (p .over) (p .extra) (p .mark)) × Held (o .kind) (i + 1) u →
+      (u ≡ withOf (o .kind) (o .first) i t (p .value) (p .over) (p .added) (p .mark)) × Held (o .kind) (i + 1) u →
       Kept (o .kind) i (p .value) (p .mark) held after holds last → Going read o s lent n base from last u holds (p .next) (i + 1)
   child-done {p} {holds = holds} {last = last} e (add, hold) (many, (kept-as, longer)) =
       let told = tells-done e (k .tells) in

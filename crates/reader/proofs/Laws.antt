@@ -77,7 +77,7 @@ pub branch-more : (kind count i : ℕ) (t : Tally) (v o e m : ℕ) → isBranch 
     withOf kind count i t v o e m ≡ record {
       sum = t .sum;
       top = pick (eqb m 0) (max (t .top) v) (t .top);
-      extra = min valueCap (t .extra + e);
+      added = min valueCap (t .added + e);
       mark = t .mark;
       over = pick (eqb (t .over) 0) o (t .over);
     }
@@ -88,7 +88,7 @@ pub child-more : (kind count i : ℕ) (t : Tally) (v o e m : ℕ) → isBranch k
     withOf kind count i t v o e m ≡ record {
       sum = t .sum + counted kind count i v;
       top = t .top;
-      extra = min valueCap (t .extra + e);
+      added = min valueCap (t .added + e);
       mark = pick (eqb m 0) (t .mark) m;
       over = pick (eqb (t .over) 0) o (t .over);
     }
@@ -99,18 +99,18 @@ next-heavier : (i h : ℕ) → (i + 1) * h ≡ i * h + h
 next-heavier i h = omega arith
 
 -- what is held after one child more
-pub held-more : {kind i : ℕ} {t u : Tally} → Held kind i t → u .sum ≤ t .sum + heaviest kind → u .top ≤ 1099511627775 → u .extra ≤ valueCap →
+pub held-more : {kind i : ℕ} {t u : Tally} → Held kind i t → u .sum ≤ t .sum + heaviest kind → u .top ≤ 1099511627775 → u .added ≤ valueCap →
     u .mark ≤ 1000001 → Held kind (i + 1) u
-held-more {kind} {i} h sum top extra mark =
+held-more {kind} {i} h sum top added mark =
     let n = next-heavier i (heaviest kind) in
-    record { sum = omega (arith, h .sum); top = top; extra = extra; mark = mark }
+    record { sum = omega (arith, h .sum); top = top; added = added; mark = mark }
 
 pub sum-fits : (kind i : ℕ) {t : Tally} → Held kind i t → (i + 1) * heaviest kind ≤ heaviestSum → t .sum + heaviest kind ≤ heaviestSum
 sum-fits kind i h k = omega (arith, next-heavier i (heaviest kind), h .sum)
 
 -- of a child that is told plainly nothing is added but its value
-pub plain-extra : {extra : ℕ} → extra ≤ valueCap → min valueCap (extra + 0) ≡ extra
-plain-extra h = omega arith
+pub plain-added : {added : ℕ} → added ≤ valueCap → min valueCap (added + 0) ≡ added
+plain-added h = omega arith
 
 pub plain-over : (over : ℕ) → pick (eqb over 0) 0 over ≡ over
 plain-over over = go (eqb over 0) refl

@@ -52,7 +52,7 @@ none-small (suc n) (suc i) = none-small n i
 module _ (n : ℕ) (s : List ℕ) (number : ℕ) (b : Bounds) (run : Progress) where
   routines-step : b .count < n →
       routinesOf (n - b .count) s number b run
-      ≡ onParsed (routineOf s (b .values) (b .count + 1) (run .at)) (λ k p. refusal (length s) k p b) (λ value over extra mark next.
+      ≡ onParsed (routineOf s (b .values) (b .count + 1) (run .at)) (λ k p. refusal (length s) k p b) (λ value over added mark next.
       routinesOf (n - (b .count + 1)) s number (boundsWith b value) (progressWith run (b .count + 1) number value over next))
   unfolding routinesOf
   routines-step h = let e : n - b .count ≡ suc (n - (b .count + 1)) = omega arith in rw e

@@ -30,10 +30,10 @@ abbrev pub onHead : {A : Type 0} → Head → (ℕ → ℕ → A) → (Read → 
 onHead (head.Refused number place) g f = g number place
 onHead (head.Good r) g f = f r
 
--- value, over, extra, mark and next of what was read
+-- value, over, added, mark and next of what was read
 abbrev pub onParsed : {A : Type 0} → Parsed → (ℕ → ℕ → A) → (ℕ → ℕ → ℕ → ℕ → Cursor → A) → A
 onParsed (Plain v next) g f = f v 0 0 0 next
-onParsed (Done p) g f = f (p .value) (p .over) (p .extra) (p .mark) (p .next)
+onParsed (Done p) g f = f (p .value) (p .over) (p .added) (p .mark) (p .next)
 onParsed (Refused number place) g f = g number place
 
 -- a record that owns a list: how it stands, and the passes that the counts allow it
@@ -68,8 +68,8 @@ childOf read o i marked =
 unfoldable pub listOf : ChildReader → Owner → ℕ → ℕ → Cursor → Tally → List ℕ → Parsed
 listOf read o zero i c t marks = closeOf (o .kind) (o .first) (o .second) t (chargesOf (o .product) (t .top) 0 marks) (o .start) c
 listOf read o (suc n) i c t marks =
-    onParsed (childOf read o i (length marks) c) Refused (λ value over extra mark next.
-    listOf read o n (i + 1) next (withOf (o .kind) (o .first) i t value over extra mark) (keptOf (o .kind) i value mark marks))
+    onParsed (childOf read o i (length marks) c) Refused (λ value over added mark next.
+    listOf read o n (i + 1) next (withOf (o .kind) (o .first) i t value over added mark) (keptOf (o .kind) i value mark marks))
 
 -- a record that owns nothing: a primitive, a call, a marker, or an empty sequence
 unfoldable pub aloneOf : List ℕ → Read → Parsed
@@ -137,7 +137,7 @@ verdictOf long b run =
 unfoldable pub routinesOf : ℕ → List ℕ → ℕ → Bounds → Progress → Report
 routinesOf zero s number b run = verdictOf (length s) b run
 routinesOf (suc n) s number b run =
-    onParsed (routineOf s (b .values) (b .count + 1) (run .at)) (λ k p. refusal (length s) k p b) (λ value over extra mark next.
+    onParsed (routineOf s (b .values) (b .count + 1) (run .at)) (λ k p. refusal (length s) k p b) (λ value over added mark next.
     routinesOf n s number (boundsWith b value) (progressWith run (b .count + 1) number value over next))
 
 -- the sheet record, then its routines

@@ -39,14 +39,14 @@ abbrev pub isBranch : ℕ → ℕ → Bool
 isBranch kind i = pick (eqb kind 4) (not (eqb i 0)) false
 
 abbrev pub noTally : Tally
-noTally = record { sum = 0; top = 0; extra = 0; mark = 0; over = 0 }
+noTally = record { sum = 0; top = 0; added = 0; mark = 0; over = 0 }
 
--- child i more: its value, over, extra and mark
+-- child i more: its value, over, added and mark
 unfoldable pub withOf : ℕ → ℕ → ℕ → Tally → ℕ → ℕ → ℕ → ℕ → Tally
-withOf kind count i t value over extra mark = record {
+withOf kind count i t value over added mark = record {
   sum = pick (isBranch kind i) (t .sum) (t .sum + counted kind count i value);
   top = pick (isBranch kind i) (pick (eqb mark 0) (max (t .top) value) (t .top)) (t .top);
-  extra = min valueCap (t .extra + extra);
+  added = min valueCap (t .added + added);
   mark = pick (eqb mark 0) (t .mark) (pick (isBranch kind i) (t .mark) mark);
   over = pick (eqb (t .over) 0) over (t .over);
 }
@@ -57,15 +57,15 @@ keptOf kind i value mark marks = pick (eqb mark 0) marks (pick (isBranch kind i)
 
 -- a record ends
 abbrev pub part : ℕ → ℕ → ℕ → ℕ → Cursor → Share
-part value over extra mark next = record { value = value; over = over; extra = extra; mark = mark; next = next }
+part value over added mark next = record { value = value; over = over; added = added; mark = mark; next = next }
 
 unfoldable pub endedOf : ℕ → ℕ → ℕ → ℕ → ℕ → Cursor → Parsed
-endedOf value over extra mark start next =
+endedOf value over added mark start next =
     pick (eqb over 0)
-    (pick (ltb 1099511627775 value) (Done (part 0 start extra mark next))
-    (pick (pick (eqb extra 0) (eqb mark 0) false) (Plain value next)
-    (Done (part value 0 extra mark next))))
-    (Done (part 0 over extra mark next))
+    (pick (ltb 1099511627775 value) (Done (part 0 start added mark next))
+    (pick (pick (eqb added 0) (eqb mark 0) false) (Plain value next)
+    (Done (part value 0 added mark next))))
+    (Done (part 0 over added mark next))
 
 -- its value, and what its markers add: to itself, if it is a scope
 abbrev pub valueOf : ℕ → ℕ → Tally → ℕ
@@ -74,8 +74,8 @@ valueOf kind first t = t .sum + t .top + pick (eqb kind 7) first 0
 unfoldable pub closeOf : ℕ → ℕ → ℕ → Tally → ℕ → ℕ → Cursor → Parsed
 closeOf kind first second t more start next =
     pick (eqb second 1)
-    (endedOf (valueOf kind first t + min valueCap (t .extra + more)) (t .over) 0 (t .mark) start next)
-    (endedOf (valueOf kind first t) (t .over) (min valueCap (t .extra + more)) (t .mark) start next)
+    (endedOf (valueOf kind first t + min valueCap (t .added + more)) (t .over) 0 (t .mark) start next)
+    (endedOf (valueOf kind first t) (t .over) (min valueCap (t .added + more)) (t .mark) start next)
 
 -- The ranges that keep every sum in 64 bits.
 -- the most that a child adds; the most that all add
@@ -91,18 +91,18 @@ pub record Counts (kind count : ℕ) : Type 0 where
 pub record Held (kind i : ℕ) (t : Tally) : Type 0 where
   pub sum : t .sum ≤ i * heaviest kind
   pub top : t .top ≤ 1099511627775
-  pub extra : t .extra ≤ valueCap
+  pub added : t .added ≤ valueCap
   pub mark : t .mark ≤ 1000001
 
 -- what is told of a construct from a place on, in a sheet of so many bytes
 pub record Told (long at v e m : ℕ) (next : Cursor) : Type 0 where
   pub value : v ≤ 1099511627775
-  pub extra : e ≤ valueCap
+  pub added : e ≤ valueCap
   pub mark : m ≤ 1000001
   pub past : at + 8 ≤ next .at
   pub inside : next .at ≤ long
 
 abbrev pub Tells : ℕ → ℕ → Parsed → Type 0
 Tells long at (Plain v next) = Told long at v 0 0 next
-Tells long at (Done p) = Told long at (p .value) (p .extra) (p .mark) (p .next)
+Tells long at (Done p) = Told long at (p .value) (p .added) (p .mark) (p .next)
 Tells long at (Refused number place) = Unit {0}

@@ -44,11 +44,11 @@ pub struct Report {
 }
 
 // What an ended construct tells the record that owns it. over: where the first record ended with too large a value, 0 for none.
-// extra: what its markers add to a scope around it. mark: 0, or the limit + 1 of a marker or of a marked branch.
+// added: what its markers add to a scope around it. mark: 0, or the limit + 1 of a marker or of a marked branch.
 pub struct Share {
     pub value: u64,
     pub over: usize,
-    pub extra: u64,
+    pub added: u64,
     pub mark: u64,
     pub next: Cursor,
 }
@@ -74,7 +74,7 @@ pub struct Ways {
 pub struct Tally {
     pub sum: u64,
     pub top: u64,
-    pub extra: u64,
+    pub added: u64,
     pub mark: u64,
     pub over: usize,
 }
@@ -268,7 +268,7 @@ impl Tally {
         Tally {
             sum: 0,
             top: 0,
-            extra: 0,
+            added: 0,
             mark: 0,
             over: 0,
         }
@@ -284,6 +284,11 @@ impl Tally {
         ensures { λ r. ⌜ Held kind (i + 1) r ⌝ }
     {
         let mut t = self;
+        // Most children stand in sequences.
+        if kind == 3 {
+            t.sum = t.sum + v;
+            return t;
+        }
         if is_branch(kind, i) {
             t.top = larger(t.top, v);
             return t;
@@ -297,13 +302,13 @@ impl Tally {
         requires { ⌜ Counts kind count ⌝ }
         requires { ⌜ Held kind i self ⌝ }
         requires { ⌜ (i + 1) * heaviest kind ≤ heaviestSum ⌝ }
-        requires { ⌜ (p .value ≤ 1099511627775) × (p .extra ≤ valueCap) × (p .mark ≤ 1000001) ⌝ }
-        ensures { λ r. ⌜ r ≡ withOf kind count i self (p .value) (p .over) (p .extra) (p .mark) ⌝ }
+        requires { ⌜ (p .value ≤ 1099511627775) × (p .added ≤ valueCap) × (p .mark ≤ 1000001) ⌝ }
+        ensures { λ r. ⌜ r ≡ withOf kind count i self (p .value) (p .over) (p .added) (p .mark) ⌝ }
         ensures { λ r. ⌜ Held kind (i + 1) r ⌝ }
     {
         let mut t = self;
         t.over = choose_place(t.over == 0, p.over, t.over);
-        t.extra = at_most(VALUE_CAP, t.extra + p.extra);
+        t.added = at_most(VALUE_CAP, t.added + p.added);
         if is_branch(kind, i) {
             t.top = choose(p.mark == 0, larger(t.top, p.value), t.top);
             return t;
@@ -331,33 +336,33 @@ fn keep(marks: &mut [u64], held: usize, kind: u64, i: u64, p: Share) -> usize
     held
 }
 
-fn done(value: u64, over: usize, extra: u64, mark: u64, next: Cursor) -> Parsed
-    ensures { λ r. ⌜ r ≡ Parsed.Done (part value over extra mark next) ⌝ }
+fn done(value: u64, over: usize, added: u64, mark: u64, next: Cursor) -> Parsed
+    ensures { λ r. ⌜ r ≡ Parsed.Done (part value over added mark next) ⌝ }
 {
     Parsed::Done(Share {
         value,
         over,
-        extra,
+        added,
         mark,
         next,
     })
 }
 
 // A record ends with a value, unless a record before it has ended with too large a one.
-fn ended(value: u64, over: usize, extra: u64, mark: u64, start: usize, next: Cursor) -> Parsed
-    ensures { λ r. ⌜ r ≡ endedOf value over extra mark start next ⌝ }
+fn ended(value: u64, over: usize, added: u64, mark: u64, start: usize, next: Cursor) -> Parsed
+    ensures { λ r. ⌜ r ≡ endedOf value over added mark start next ⌝ }
 {
     if over != 0 {
-        return done(0, over, extra, mark, next);
+        return done(0, over, added, mark, next);
     }
     if VALUE_LIMIT < value {
-        return done(0, start, extra, mark, next);
+        return done(0, start, added, mark, next);
     }
-    if extra != 0 {
-        return done(value, 0, extra, mark, next);
+    if added != 0 {
+        return done(value, 0, added, mark, next);
     }
     if mark != 0 {
-        return done(value, 0, extra, mark, next);
+        return done(value, 0, added, mark, next);
     }
     Parsed::Plain(value, next)
 }
@@ -372,16 +377,16 @@ fn close(
     start: usize,
     next: Cursor,
 ) -> Parsed
-    requires { ⌜ (t .sum ≤ heaviestSum) × (t .top ≤ 1099511627775) × (t .extra ≤ valueCap) ⌝ }
+    requires { ⌜ (t .sum ≤ heaviestSum) × (t .top ≤ 1099511627775) × (t .added ≤ valueCap) ⌝ }
     requires { ⌜ (first ≤ 4294967295) × (more ≤ valueCap) ⌝ }
     ensures { λ r. ⌜ r ≡ closeOf kind first second t more start next ⌝ }
 {
-    let extra = at_most(VALUE_CAP, t.extra + more);
+    let added = at_most(VALUE_CAP, t.added + more);
     let value = t.sum + t.top + choose(kind == 7, first, 0);
     if second == 1 {
-        return ended(value + extra, t.over, 0, t.mark, start, next);
+        return ended(value + added, t.over, 0, t.mark, start, next);
     }
-    ended(value, t.over, extra, t.mark, start, next)
+    ended(value, t.over, added, t.mark, start, next)
 }
 
 // A record that owns nothing starts no list: a primitive, a call, a marker, or an empty sequence.

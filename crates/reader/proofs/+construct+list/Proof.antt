@@ -263,7 +263,7 @@ module _ (t : ℕ) where
   list-with-requires c κs =
       let read = c .before .before .before .before .before in
       let told = tells-done (c .before .p .given .1) (list-child read .tells) in
-      (list-start read .pre .1 .1 .0 .counts, (list-child read .going .tally, (list-fits read, (told .value, told .extra, told .mark))))
+      (list-start read .pre .1 .1 .0 .counts, (list-child read .going .tally, (list-fits read, (told .value, told .added, told .mark))))
 
   list-keep-requires : list-lts.Need-keep-requires list-calls list-at list.Post list-Inv-loop list-μ-loop
   list-keep-requires c κs =
@@ -312,7 +312,7 @@ module _ (t : ℕ) where
       let owns = start .pre .1 .1 .0 in
       let tally = l .inv .tally in
       let most = fewer-small (l .i) (start .args .n) (start .args .kind) (l .inv .count) (owns .sum) in
-      ((omega (arith, tally .sum, most), tally .top, tally .extra), (owns .cost, c .charges .ensures .1))
+      ((omega (arith, tally .sum, most), tally .top, tally .added), (owns .cost, c .charges .ensures .1))
 
   list-same-length-2 : list-lts.Need-same-length-2 list-calls list-at list.Post list-Inv-loop list-μ-loop
   list-same-length-2 c = c .before .before .before .before .before .loop .inv .long

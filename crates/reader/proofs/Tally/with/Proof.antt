@@ -13,7 +13,7 @@ choose-place-requires c κs = search needs
 add-at-most : tie.Need-add-at-most
 add-at-most c =
     let p = c .before .before .before .before .pre .1 in
-    omega (arith, p .0 .extra, p .1 .1 .1)
+    omega (arith, p .0 .added, p .1 .1 .1)
 
 at-most-requires : tie.Need-at-most-requires
 at-most-requires c κs = search needs
@@ -34,7 +34,7 @@ returns c =
     let a = start .args in
     let h = start .pre .1 .0 in
     let is = sym (branch .is-branch .ensures) ∙ c .before .before .before .if1 .taken in
-    let more = branch-more (a .kind) (a .count) (a .i) (a .self) (a .p .value) (a .p .over) (a .p .extra) (a .p .mark) is in
+    let more = branch-more (a .kind) (a .count) (a .i) (a .self) (a .p .value) (a .p .over) (a .p .added) (a .p .mark) is in
     let larger = c .before .larger in
     let top = pick-most {a = larger .result} {b = a .self .top} (eqb (a .p .mark) 0) (omega (arith, h .top, larger .ensures, start .pre .1 .1 .1 .0)) (h .top) in (
       rw (more, c .choose .ensures, larger .ensures, branch .before .at-most .ensures, branch .before .before .before .before .choose-place .ensures),
@@ -62,7 +62,7 @@ returns-2 c =
     let h = start .pre .1 .0 in
     let marked = c .before .before .choose2 .ensures in
     let is = sym (branch .is-branch .ensures) ∙ c .before .before .before .before .if1 .left in
-    let more = child-more (a .kind) (a .count) (a .i) (a .self) (a .p .value) (a .p .over) (a .p .extra) (a .p .mark) is in
+    let more = child-more (a .kind) (a .count) (a .i) (a .self) (a .p .value) (a .p .over) (a .p .added) (a .p .mark) is in
     let mark = pick-most {a = a .self .mark} {b = a .p .mark} (eqb (a .p .mark) 0) (h .mark) (start .pre .1 .1 .1 .2) in (
       rw (more, c .before .counted .ensures .0, marked, branch .before .at-most .ensures, branch .before .before .before .before .choose-place .ensures),
       held-more h (omega (arith, c .before .counted .ensures .1)) (h .top) (omega arith) (rw marked mark),
