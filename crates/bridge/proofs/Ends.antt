@@ -15,7 +15,7 @@ use Rattle.meaning.specs.Answer.{valueLimit, Ended, ended, ends, tooBig}
 use Rattle.meaning.proofs.Laws.{pick-true}
 use Rattle.records.specs.declared.Cursor.{Cursor}
 use Rattle.reader.specs.declared.Parsed.the-variants.{Plain, Done}
-use Rattle.reader.specs.Tallies.{valueCap, part, endedOf}
+use Rattle.reader.specs.Tallies.{valueCap, share, endedOf}
 use Rattle.bridge.proofs.Agree.{Over, markNumber, either, Agrees, Same, read-plain, read-done}
 
 -- the first of two places
@@ -88,7 +88,7 @@ module _ (known : Known) (product at : ℕ) (c : Construct) (v over e m past : �
     small e' m' added marked = record { reached = reached; over = rw q; amount = λ z. amount; small = low; added = λ z. added; marked = marked }
 
     shortened : e ≡ min valueCap (total (times product (charges known c))) → m ≡ markNumber (either (itself c) (mark c)) →
-        (t : Bool) → pick (eqb e 0) (eqb m 0) false ≡ t → Same known product at (pick t (Plain v next) (Done (part v 0 e m next))) (found c past)
+        (t : Bool) → pick (eqb e 0) (eqb m 0) false ≡ t → Same known product at (pick t (Plain v next) (Done (share v 0 e m next))) (found c past)
     shortened added marked true u =
         let (x, y) = pick-true (eqb e 0) (eqb m 0) u in
         read-plain (small 0 0 (sym (eqb-true e 0 x) ∙ added) (sym (eqb-true m 0 y) ∙ marked))
@@ -102,7 +102,7 @@ module _ (known : Known) (product at : ℕ) (c : Construct) (v over e m past : �
   ended-law none h = rw (eq-eqb over 0 (h .first)) (go (ltb valueLimit v) refl)
     where
       go : (t : Bool) → ltb valueLimit v ≡ t →
-          Same known product at (pick t (Done (part 0 at e m next)) (pick (pick (eqb e 0) (eqb m 0) false) (Plain v next) (Done (part v 0 e m next)))) (found c past)
+          Same known product at (pick t (Done (share 0 at e m next)) (pick (pick (eqb e 0) (eqb m 0) false) (Plain v next) (Done (share v 0 e m next)))) (found c past)
       go true t = read-done (big at at (refl, place) (h .marked) (h .listed ∙ rw (sym (same-test v (value known c) (h .amount refl)) ∙ t)))
       go false t =
           let u = sym (same-test v (value known c) (h .amount refl)) ∙ t in

@@ -37,15 +37,15 @@ module _ (s : List ℕ) (number edition : ℕ) where
   bigIn rs = tooBig (endedOf (sheetWith edition rs))
 
   -- What the code holds after these routines. Values count only while no record was too big.
-  pub record Holds (rs : List Routine) (b : Bounds) (run : Progress) : Type 0 where
-    pub place : run .at .at ≡ placeAfter rs
+  pub record Holds (rs : List Routine) (b : Bounds) (progress : Progress) : Type 0 where
+    pub place : progress .at .at ≡ placeAfter rs
     pub many : b .count ≡ length rs
     pub room : length (b .values) ≡ 64
     pub small : Small (b .values)
-    pub over : Over (bigIn rs) (run .over)
+    pub over : Over (bigIn rs) (progress .over)
     pub values : bigIn rs ≡ none → take (b .count) (b .values) ≡ boundsOf (sheetWith edition rs)
-    pub last : bigIn rs ≡ none → run .last ≡ taskBound (sheetWith edition rs)
-    pub part : partIn s (accepted (sheetWith edition rs)) number ≡ record { start = run .start; stop = run .end }
+    pub last : bigIn rs ≡ none → progress .last ≡ taskBound (sheetWith edition rs)
+    pub part : partIn s (accepted (sheetWith edition rs)) number ≡ record { start = progress .start; stop = progress .end }
 
   pub holds-none : (c : Cursor) → c .at ≡ 12 → Holds [] noBounds (progressFrom (length s) c)
   unfolding noBounds progressFrom routinesBytes endedRoutines tooBig bounds
@@ -55,9 +55,9 @@ module _ (s : List ℕ) (number edition : ℕ) where
       none-asked zero = refl
       none-asked (suc i) = rw (le-ltb i 0 (omega arith))
 
-  module _ {rs : List Routine} {b : Bounds} {run : Progress} (d : Holds rs b run) (space : b .count < 64)
-      {r : Routine} {past v o e m : ℕ} {next : Cursor} (f : Agrees (knownTo b) 0 (run .at .at) (asLoop r) past v o e m next)
-      (long : Long (run .at .at) r past) where
+  module _ {rs : List Routine} {b : Bounds} {progress : Progress} (d : Holds rs b progress) (space : b .count < 64)
+      {r : Routine} {past v o e m : ℕ} {next : Cursor} (f : Agrees (knownTo b) 0 (progress .at .at) (asLoop r) past v o e m next)
+      (long : Long (progress .at .at) r past) where
     abbrev known : Known
     known = bounds nothing rs
 
@@ -67,14 +67,14 @@ module _ (s : List ℕ) (number edition : ℕ) where
         let same : knownTo b ≡ known = ap (λ z. record { bounds = z }) (d .values h) in
         rw (← same, ← d .place) f
 
-    pub holds-more : Holds (more r rs) (boundsWith b v) (progressWith run (b .count + 1) number v o next)
+    pub holds-more : Holds (more r rs) (boundsWith b v) (progressWith progress (b .count + 1) number v o next)
     unfolding boundsWith progressWith
     holds-more = record {
       place = place;
       many = (let n = length-more r rs in let k = d .many in omega arith);
       room = length-set (b .values) (b .count) v ∙ d .room;
       small = set-small (b .values) (b .count) v (d .small) (f .small);
-      over = rw big (over-also (bigIn rs) _ (run .over) o (d .over) (λ h. agrees h .over));
+      over = rw big (over-also (bigIn rs) _ (progress .over) o (d .over) (λ h. agrees h .over));
       values = values;
       last = last;
       part = rw (ap (λ n. eqb (n + 1) number) (d .many)) (part-more r s edition rs number ∙ part (eqb (length rs + 1) number));
@@ -104,6 +104,6 @@ module _ (s : List ℕ) (number edition : ℕ) where
             e ∙ sym (task-more r edition rs (ap length (sym (d .values a)) ∙ length-take-le (b .count) (b .values) (omega arith) ∙ d .many))
 
         part : (t : Bool) → pick t (record { start = placeAfter rs; stop = placeAfter (more r rs) }) (partIn s (accepted (sheetWith edition rs)) number) ≡
-            record { start = pick t (run .at .at) (run .start); stop = pick t (next .at) (run .end) }
+            record { start = pick t (progress .at .at) (progress .start); stop = pick t (next .at) (progress .end) }
         part true = ap₂ (λ a b. record { start = a; stop = b }) (sym (d .place)) (sym place)
         part false = d .part

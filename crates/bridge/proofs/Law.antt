@@ -11,7 +11,8 @@ use Rattle.meaning.specs.Answer.{refused, judgement, outcome, told, stored, par
 use Rattle.reader.specs.declared.Answer.the-variants.{Accepted}
 use Rattle.reader.specs.declared.Report.{Report}
 use Rattle.reader.specs.Reader.{noBounds, refusal, sheetOf, readOf}
-use Rattle.reader.specs.Said.{saidOf, storedOf, partSaid}
+use Rattle.reader.specs.Said.{saidOf}
+use Rattle.reader.specs.Reports.{storedOf, partSaid}
 use Rattle.bridge.proofs.Sheets.{Reports, refusal-law, sheet-law}
 
 -- the answer; on acceptance the bounds, as a table is to hold them; the part of the routine that was asked for

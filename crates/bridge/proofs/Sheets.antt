@@ -23,7 +23,8 @@ use Rattle.reader.specs.declared.Progress.{Progress}
 use Rattle.reader.specs.declared.Report.{Report}
 use Rattle.reader.specs.declared.Answer.the-variants.{Accepted}
 use Rattle.reader.specs.Reader.{onHead, onParsed, noBounds, boundsWith, progressFrom, progressWith, refusal, verdictOf, routinesOf, sheetOf}
-use Rattle.reader.specs.Said.{saidOf, storedOf, partSaid}
+use Rattle.reader.specs.Said.{saidOf}
+use Rattle.reader.specs.Reports.{storedOf, partSaid}
 use Rattle.bridge.proofs.Agree.{Over, Agrees, Same, both-refused, read-plain, read-done}
 use Rattle.bridge.proofs.Marks.{first-most}
 use Rattle.bridge.proofs.Readers.{past-record}
@@ -42,7 +43,7 @@ unfolding refusal
 refusal-law s number k place b = record { said = refl; kept = λ _ e _. cc; part = refl }
 
 abbrev acceptance : Bounds → Progress → Report
-acceptance b run = record { answer = Accepted (run .last); bounds = b; start = run .start; end = run .end }
+acceptance b progress = record { answer = Accepted (progress .last); bounds = b; start = progress .start; end = progress .end }
 
 -- the sheet of these routines, unless bytes are left after them
 abbrev whole : List ℕ → ℕ → List Routine → Reader Sheet
@@ -54,25 +55,25 @@ after r g = andThen g (λ later past. found (r ∷ later) past)
 
 module _ (s : List ℕ) (number edition : ℕ) where
   -- EXTRA, then TOO BIG, then the task's bound
-  verdict-law : (rs : List Routine) (b : Bounds) (run : Progress) → Holds s number edition rs b run →
-      Reports s number (verdictOf (length s) b run) (judgement (whole s edition rs (run .at .at)))
+  verdict-law : (rs : List Routine) (b : Bounds) (progress : Progress) → Holds s number edition rs b progress →
+      Reports s number (verdictOf (length s) b progress) (judgement (whole s edition rs (progress .at .at)))
   unfolding verdictOf refuse
-  verdict-law rs b run d = by-place (ltb (run .at .at) (length s))
+  verdict-law rs b progress d = by-place (ltb (progress .at .at) (length s))
     where
-      by-values : (i : Option ℕ) → tooBig (endedOf (sheetWith edition rs)) ≡ i → Over i (run .over) →
-          Reports s number (pick (eqb (run .over) 0) (acceptance b run) (refusal (length s) 12 (run .over) b)) (sized (sheetWith edition rs) i)
+      by-values : (i : Option ℕ) → tooBig (endedOf (sheetWith edition rs)) ≡ i → Over i (progress .over) →
+          Reports s number (pick (eqb (progress .over) 0) (acceptance b progress) (refusal (length s) 12 (progress .over) b)) (sized (sheetWith edition rs) i)
       by-values none p x =
-          rw (eq-eqb (run .over) 0 x) (record {
+          rw (eq-eqb (progress .over) 0 x) (record {
             said = ap (λ z. accepted z) (d .last p);
             kept = λ _ _ table. ap₂ (λ xs n. xs ++ drop n table) (d .values p) (d .many);
             part = sym (d .part);
           })
-      by-values (some place) p x = rw (ne-eqb (run .over) 0 (λ e. omega arith), x .0) (refusal-law s number 12 place b)
+      by-values (some place) p x = rw (ne-eqb (progress .over) 0 (λ e. omega arith), x .0) (refusal-law s number 12 place b)
 
       by-place : (t : Bool) →
-          Reports s number (pick t (refusal (length s) 11 (run .at .at) b) (pick (eqb (run .over) 0) (acceptance b run) (refusal (length s) 12 (run .over) b)))
-          (judgement (refuse t 11 (run .at .at) (found (sheetWith edition rs) (run .at .at))))
-      by-place true = refusal-law s number 11 (run .at .at) b
+          Reports s number (pick t (refusal (length s) 11 (progress .at .at) b) (pick (eqb (progress .over) 0) (acceptance b progress) (refusal (length s) 12 (progress .over) b)))
+          (judgement (refuse t 11 (progress .at .at) (found (sheetWith edition rs) (progress .at .at))))
+      by-place true = refusal-law s number 11 (progress .at .at) b
       by-place false = by-values (tooBig (endedOf (sheetWith edition rs))) refl (d .over)
 
   -- the verdict on these routines and those that are read after them
@@ -86,30 +87,30 @@ module _ (s : List ℕ) (number edition : ℕ) where
   -- n routines more
   abbrev RoutinesLaw : ℕ → Type 0
   RoutinesLaw n =
-      (rs : List Routine) (b : Bounds) (run : Progress) → Holds s number edition rs b run → b .count + n ≤ 64 →
-      Reports s number (routinesOf n s number b run) (verdictWith rs (routinesAt n s (b .count + 1) (run .at .at)))
+      (rs : List Routine) (b : Bounds) (progress : Progress) → Holds s number edition rs b progress → b .count + n ≤ 64 →
+      Reports s number (routinesOf n s number b progress) (verdictWith rs (routinesAt n s (b .count + 1) (progress .at .at)))
 
   routines-step : (n : ℕ) → RoutinesLaw n → RoutinesLaw (suc n)
   unfolding routinesOf routinesAt boundsWith progressWith
-  routines-step n law rs b run d few =
+  routines-step n law rs b progress d few =
       let p = d .place in
-      by-routine (routine-long s (b .count) (b .count + 1) refl (run .at .at))
-      (routine-law s (b .count) (b .count + 1) refl (knownTo b) (b .values) (finds b) (d .small) (run .at) (omega arith))
+      by-routine (routine-long s (b .count) (b .count + 1) refl (progress .at .at))
+      (routine-law s (b .count) (b .count + 1) refl (knownTo b) (b .values) (finds b) (d .small) (progress .at) (omega arith))
     where
       later : Reader (List Routine)
       later = routinesAt n s (b .count + 1 + 1)
 
       onward : ℕ → ℕ → Cursor → Report
-      onward v o next = routinesOf n s number (boundsWith b v) (progressWith run (b .count + 1) number v o next)
+      onward v o next = routinesOf n s number (boundsWith b v) (progressWith progress (b .count + 1) number v o next)
 
-      one-more : {r : Routine} {past v o e m : ℕ} {next : Cursor} → Long (run .at .at) r past →
-          Agrees (knownTo b) 0 (run .at .at) (asLoop r) past v o e m next → Reports s number (onward v o next) (verdictWith rs (after r (later past)))
+      one-more : {r : Routine} {past v o e m : ℕ} {next : Cursor} → Long (progress .at .at) r past →
+          Agrees (knownTo b) 0 (progress .at .at) (asLoop r) past v o e m next → Reports s number (onward v o next) (verdictWith rs (after r (later past)))
       one-more {r} {v = v} {o = o} {next = next} long a =
           rw (← a .reached)
           (subst (Reports s number (onward v o next)) (regroup rs r (later (next .at))) (law _ _ _ (holds-more s number edition d (omega arith) a long) (omega arith)))
 
-      by-routine : {q : Parsed} {g : Reading Routine} → Found (Long (run .at .at)) g →
-          Same (knownTo b) 0 (run .at .at) q (andThen g (λ r. found (asLoop r))) →
+      by-routine : {q : Parsed} {g : Reading Routine} → Found (Long (progress .at .at)) g →
+          Same (knownTo b) 0 (progress .at .at) q (andThen g (λ r. found (asLoop r))) →
           Reports s number (onParsed q (λ k p. refusal (length s) k p b) (λ v o e m next. onward v o next))
           (verdictWith rs (andThen g (λ r past. after r (later past))))
       by-routine (not-read {number = k} {place = p} n) both-refused = refusal-law s number k p b
@@ -118,7 +119,7 @@ module _ (s : List ℕ) (number edition : ℕ) where
 
   routines-law : (n : ℕ) → RoutinesLaw n
   unfolding routinesOf routinesAt
-  routines-law zero = λ rs b run d few. rw append-nil (verdict-law rs b run d)
+  routines-law zero = λ rs b progress d few. rw append-nil (verdict-law rs b progress d)
   routines-law (suc n) = routines-step n (routines-law n)
 
 -- the sheet record tells of at most 64 routines

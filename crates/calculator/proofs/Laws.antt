@@ -15,10 +15,12 @@ use Rattle.demands.proofs.Parts.{part-inside}
 use Rattle.reader.specs.declared.Answer.{Answer}
 use Rattle.reader.specs.declared.Answer.the-variants.{Accepted, Refused}
 use Rattle.reader.specs.declared.Report.{Report}
-use Rattle.reader.specs.Said.{saidOf, storedOf}
+use Rattle.reader.specs.Said.{saidOf}
+use Rattle.reader.specs.Reports.{storedOf}
 use Rattle.bridge.proofs.Law.{Reported}
 use Rattle.calculator.specs.declared.Places.{Places}
-use Rattle.calculator.specs.Promises.{isAccepted, partAt}
+use Rattle.calculator.specs.Promises.{partAt}
+use Rattle.calculator.specs.Steps.{isAccepted}
 
 -- one place more of the table
 pub stored-more : (v t : List ℕ) (i : ℕ) → i < length v → i < length t → set (take i v ++ drop i t) i (getD v i 0) ≡ take (i + 1) v ++ drop (i + 1) t

@@ -5,8 +5,10 @@ ghost use mathlib.Core.Path.{_≡_};
 ghost use Prim.Native.Nat.{_≤_};
 ghost use lib.ListN.{length};
 ghost use Rattle.meaning.specs.Answer.{answer, tableAfter, partOf, routinePart};
-ghost use Rattle.reader.specs.Said.{saidOf, storedOf};
-ghost use Rattle.calculator.specs.Promises.{isAccepted, partAt};
+ghost use Rattle.reader.specs.Said.{saidOf};
+ghost use Rattle.reader.specs.Reports.{storedOf};
+ghost use Rattle.calculator.specs.Promises.{partAt};
+ghost use Rattle.calculator.specs.Steps.{isAccepted};
 
 // Where the records of a routine start and end.
 pub struct Places {

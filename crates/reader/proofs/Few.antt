@@ -38,18 +38,18 @@ few-refusal : (long k p : ℕ) (b : Bounds) → b .count ≤ 64 → Few (refusal
 unfolding refusal
 few-refusal long k p b h = record { few = h }
 
-few-verdict : (long : ℕ) (b : Bounds) (run : Progress) → b .count ≤ 64 → Few (verdictOf long b run)
+few-verdict : (long : ℕ) (b : Bounds) (progress : Progress) → b .count ≤ 64 → Few (verdictOf long b progress)
 unfolding verdictOf
-few-verdict long b run h =
-    picked Few (ltb (run .at .at) long) (few-refusal long 11 (run .at .at) b h) (
-    picked Few (eqb (run .over) 0) (record { few = h }) (few-refusal long 12 (run .over) b h))
+few-verdict long b progress h =
+    picked Few (ltb (progress .at .at) long) (few-refusal long 11 (progress .at .at) b h) (
+    picked Few (eqb (progress .over) 0) (record { few = h }) (few-refusal long 12 (progress .over) b h))
 
-few-routines : (n : ℕ) (s : List ℕ) (number : ℕ) (b : Bounds) (run : Progress) → b .count + n ≤ 64 → Few (routinesOf n s number b run)
+few-routines : (n : ℕ) (s : List ℕ) (number : ℕ) (b : Bounds) (progress : Progress) → b .count + n ≤ 64 → Few (routinesOf n s number b progress)
 unfolding routinesOf boundsWith
-few-routines zero s number b run h = few-verdict (length s) b run (omega arith)
-few-routines (suc n) s number b run h =
-    few-parsed (routineOf s (b .values) (b .count + 1) (run .at)) _ _ (λ k p. few-refusal (length s) k p b (omega arith)) (λ v o e m next.
-    few-routines n s number (boundsWith b v) (progressWith run (b .count + 1) number v o next) (omega arith))
+few-routines zero s number b progress h = few-verdict (length s) b progress (omega arith)
+few-routines (suc n) s number b progress h =
+    few-parsed (routineOf s (b .values) (b .count + 1) (progress .at)) _ _ (λ k p. few-refusal (length s) k p b (omega arith)) (λ v o e m next.
+    few-routines n s number (boundsWith b v) (progressWith progress (b .count + 1) number v o next) (omega arith))
 
 none-few : noBounds .count ≤ 0
 unfolding noBounds

@@ -15,7 +15,7 @@ use Rattle.reader.specs.declared.Share.{Share}
 use Rattle.reader.specs.declared.Parsed.{Parsed}
 use Rattle.reader.specs.declared.Parsed.the-variants.{Plain, Done}
 use Rattle.reader.specs.declared.Tally.{Tally}
-use Rattle.reader.specs.Tallies.{valueCap, part, endedOf, valueOf, closeOf, Told, Tells}
+use Rattle.reader.specs.Tallies.{valueCap, share, endedOf, valueOf, closeOf, Told, Tells}
 use Rattle.reader.specs.Reader.{aloneOf}
 use Rattle.reader.proofs.Laws.{picked}
 
@@ -53,8 +53,8 @@ ended-tells long value over added mark start next e m p i = go (eqb over 0) (ltb
 
     go : (fine big : Bool) → ltb 1099511627775 value ≡ big → (plain : Bool) →
         Tells long start (pick fine
-        (pick big (Done (part 0 start added mark next)) (pick plain (Plain value next) (Done (part value 0 added mark next))))
-        (Done (part 0 over added mark next)))
+        (pick big (Done (share 0 start added mark next)) (pick plain (Plain value next) (Done (share value 0 added mark next))))
+        (Done (share 0 over added mark next)))
     go false big b plain = told (omega arith) e m
     go true true b plain = told (omega arith) e m
     go true false b true = told (ltb-false 1099511627775 value b) (omega arith) (omega arith)

@@ -49,22 +49,22 @@ none-small zero i = omega arith
 none-small (suc n) zero = omega arith
 none-small (suc n) (suc i) = none-small n i
 
-module _ (n : ℕ) (s : List ℕ) (number : ℕ) (b : Bounds) (run : Progress) where
+module _ (n : ℕ) (s : List ℕ) (number : ℕ) (b : Bounds) (progress : Progress) where
   routines-step : b .count < n →
-      routinesOf (n - b .count) s number b run
-      ≡ onParsed (routineOf s (b .values) (b .count + 1) (run .at)) (λ k p. refusal (length s) k p b) (λ value over added mark next.
-      routinesOf (n - (b .count + 1)) s number (boundsWith b value) (progressWith run (b .count + 1) number value over next))
+      routinesOf (n - b .count) s number b progress
+      ≡ onParsed (routineOf s (b .values) (b .count + 1) (progress .at)) (λ k p. refusal (length s) k p b) (λ value over added mark next.
+      routinesOf (n - (b .count + 1)) s number (boundsWith b value) (progressWith progress (b .count + 1) number value over next))
   unfolding routinesOf
   routines-step h = let e : n - b .count ≡ suc (n - (b .count + 1)) = omega arith in rw e
 
-  pub routines-end : n ≤ b .count → routinesOf (n - b .count) s number b run ≡ verdictOf (length s) b run
+  pub routines-end : n ≤ b .count → routinesOf (n - b .count) s number b progress ≡ verdictOf (length s) b progress
   unfolding routinesOf
   routines-end h = let e : n - b .count ≡ 0 = omega arith in rw e
 
 module _ (n : ℕ) (s lent : List ℕ) (number : ℕ) (none : Bounds) (first : Progress) where
-  -- So far the routines come to these bounds and this run.
-  pub record Under (marks : List ℕ) (b : Bounds) (run : Progress) : Type 0 where
-    pub same : routinesOf (n - b .count) s number b run ≡ routinesOf n s number none first
+  -- So far the routines come to these bounds and this progress.
+  pub record Under (marks : List ℕ) (b : Bounds) (progress : Progress) : Type 0 where
+    pub same : routinesOf (n - b .count) s number b progress ≡ routinesOf n s number none first
     pub few : b .count ≤ n
     pub small : (i : ℕ) → getD (b .values) i 0 ≤ 1099511627775
     pub long : length marks ≡ length lent
@@ -74,25 +74,25 @@ module _ (n : ℕ) (s lent : List ℕ) (number : ℕ) (none : Bounds) (first : P
   under-none e = rw e (let z : n - 0 ≡ n = omega arith in record { same = rw z; few = omega arith; small = none-small 64; long = refl })
 
   -- One routine more was read: it came to x, and the marks to those after it.
-  pub record Turn (marks : List ℕ) (b : Bounds) (run : Progress) (after : List ℕ) (x : Parsed) : Type 0 where
-    pub under : Under marks b run
+  pub record Turn (marks : List ℕ) (b : Bounds) (progress : Progress) (after : List ℕ) (x : Parsed) : Type 0 where
+    pub under : Under marks b progress
     pub more : b .count < n
-    pub is : routineOf s (b .values) (b .count + 1) (run .at) ≡ x
-    pub tells : Tells (length s) (run .at .at) x
+    pub is : routineOf s (b .values) (b .count + 1) (progress .at) ≡ x
+    pub tells : Tells (length s) (progress .at .at) x
     pub long : length after ≡ length marks
 
-module _ {n : ℕ} {s lent : List ℕ} {number : ℕ} {none : Bounds} {first : Progress} {marks : List ℕ} {b : Bounds} {run : Progress} {after : List ℕ} {x : Parsed}
-    (t : Turn n s lent number none first marks b run after x) where
+module _ {n : ℕ} {s lent : List ℕ} {number : ℕ} {none : Bounds} {first : Progress} {marks : List ℕ} {b : Bounds} {progress : Progress} {after : List ℕ} {x : Parsed}
+    (t : Turn n s lent number none first marks b progress after x) where
   pub turn-long : length after ≡ length lent
   turn-long = t .long ∙ t .under .long
 
   pub turn-refused : {k p : ℕ} → x ≡ Refused k p → routinesOf n s number none first ≡ refusal (length s) k p b
-  turn-refused e = rw (← t .under .same, routines-step n s number b run (t .more), t .is ∙ e)
+  turn-refused e = rw (← t .under .same, routines-step n s number b progress (t .more), t .is ∙ e)
 
   under-more : {u : Progress} (value over : ℕ) (next : Cursor) →
-      routinesOf (n - b .count) s number b run
-      ≡ routinesOf (n - (b .count + 1)) s number (boundsWith b value) (progressWith run (b .count + 1) number value over next) →
-      value ≤ 1099511627775 → u ≡ progressWith run (b .count + 1) number value over next →
+      routinesOf (n - b .count) s number b progress
+      ≡ routinesOf (n - (b .count + 1)) s number (boundsWith b value) (progressWith progress (b .count + 1) number value over next) →
+      value ≤ 1099511627775 → u ≡ progressWith progress (b .count + 1) number value over next →
       Under n s lent number none first after (record { values = set (b .values) (b .count) value; count = b .count + 1 }) u
   unfolding boundsWith
   under-more value over next step small e = record {
@@ -102,15 +102,15 @@ module _ {n : ℕ} {s lent : List ℕ} {number : ℕ} {none : Bounds} {first : P
     long = turn-long;
   }
 
-  pub turn-plain : {v : ℕ} {next : Cursor} {u : Progress} → x ≡ Plain v next → u ≡ progressWith run (b .count + 1) number v 0 next →
+  pub turn-plain : {v : ℕ} {next : Cursor} {u : Progress} → x ≡ Plain v next → u ≡ progressWith progress (b .count + 1) number v 0 next →
       Under n s lent number none first after (record { values = set (b .values) (b .count) v; count = b .count + 1 }) u
   turn-plain {v} {next} e f =
-      under-more v 0 next (rw (routines-step n s number b run (t .more), t .is ∙ e)) (tells-plain e (t .tells) .value) f
+      under-more v 0 next (rw (routines-step n s number b progress (t .more), t .is ∙ e)) (tells-plain e (t .tells) .value) f
 
-  pub turn-done : {p : Share} {u : Progress} → x ≡ Done p → u ≡ progressWith run (b .count + 1) number (p .value) (p .over) (p .next) →
+  pub turn-done : {p : Share} {u : Progress} → x ≡ Done p → u ≡ progressWith progress (b .count + 1) number (p .value) (p .over) (p .next) →
       Under n s lent number none first after (record { values = set (b .values) (b .count) (p .value); count = b .count + 1 }) u
   turn-done {p} e f =
-      under-more (p .value) (p .over) (p .next) (rw (routines-step n s number b run (t .more), t .is ∙ e)) (tells-done e (t .tells) .value) f
+      under-more (p .value) (p .over) (p .next) (rw (routines-step n s number b progress (t .more), t .is ∙ e)) (tells-done e (t .tells) .value) f
 
 module _ (s : List ℕ) (number : ℕ) where
   pub sheet-refused : {k p : ℕ} → recordOf s sheet (record { at = 0 }) ≡ head.Refused k p →

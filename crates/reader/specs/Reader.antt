@@ -5,6 +5,7 @@ use mathlib.Core.Bool.{Bool, false, not}
 use mathlib.Core.List.{List, []}
 use lib.ListN.{length, getD, set, replicate}
 use lib.Dec.{ltb, eqb}
+use Rattle.meaning.specs.Answer.{valueLimit}
 use Rattle.meaning.specs.Format.{pick}
 use Rattle.meaning.specs.Judgement.{Owed, sheet, routine, judged}
 use Rattle.records.specs.declared.Cursor.{Cursor}
@@ -19,7 +20,7 @@ use Rattle.reader.specs.declared.Bounds.{Bounds}
 use Rattle.reader.specs.declared.Progress.{Progress}
 use Rattle.reader.specs.declared.Report.{Report}
 use Rattle.reader.specs.declared.Answer.the-variants as answer
-use Rattle.reader.specs.Tallies.{chargesOf, noTally, withOf, keptOf, part, closeOf, heaviest, heaviestSum, Counts}
+use Rattle.reader.specs.Tallies.{chargesOf, noTally, withOf, keptOf, share, closeOf, heaviest, heaviestSum, Counts}
 use Rattle.reader.specs.Ways.{waysOf, wayOf}
 
 -- the record at a cursor, judged
@@ -76,7 +77,7 @@ unfoldable pub aloneOf : List ℕ → Read → Parsed
 aloneOf bounds r =
     pick (eqb (r .kind) 2) (Plain (r .first) (r .next))
     (pick (eqb (r .kind) 8) (Plain (getD bounds (r .first - 1) 0) (r .next))
-    (pick (eqb (r .kind) 9) (Done (part (r .second) 0 0 (r .first + 1) (r .next)))
+    (pick (eqb (r .kind) 9) (Done (share (r .second) 0 0 (r .first + 1) (r .next)))
     (Plain 0 (r .next))))
 
 -- a good record, and what it owns
@@ -113,11 +114,11 @@ unfoldable pub progressFrom : ℕ → Cursor → Progress
 progressFrom long c = record { last = 0; over = 0; start = long; end = long; at = c }
 
 unfoldable pub progressWith : Progress → ℕ → ℕ → ℕ → ℕ → Cursor → Progress
-progressWith run own number value over next = record {
+progressWith progress own number value over next = record {
   last = value;
-  over = pick (eqb (run .over) 0) over (run .over);
-  start = pick (eqb own number) (run .at .at) (run .start);
-  end = pick (eqb own number) (next .at) (run .end);
+  over = pick (eqb (progress .over) 0) over (progress .over);
+  start = pick (eqb own number) (progress .at .at) (progress .start);
+  end = pick (eqb own number) (next .at) (progress .end);
   at = next;
 }
 
@@ -127,18 +128,18 @@ refusal long number place b = record { answer = answer.Refused number place; bou
 
 -- EXTRA, then TOO BIG, then the bound of the last routine
 unfoldable pub verdictOf : ℕ → Bounds → Progress → Report
-verdictOf long b run =
-    pick (ltb (run .at .at) long) (refusal long 11 (run .at .at) b)
-    (pick (eqb (run .over) 0)
-    (record { answer = answer.Accepted (run .last); bounds = b; start = run .start; end = run .end })
-    (refusal long 12 (run .over) b))
+verdictOf long b progress =
+    pick (ltb (progress .at .at) long) (refusal long 11 (progress .at .at) b)
+    (pick (eqb (progress .over) 0)
+    (record { answer = answer.Accepted (progress .last); bounds = b; start = progress .start; end = progress .end })
+    (refusal long 12 (progress .over) b))
 
 -- n routines more
 unfoldable pub routinesOf : ℕ → List ℕ → ℕ → Bounds → Progress → Report
-routinesOf zero s number b run = verdictOf (length s) b run
-routinesOf (suc n) s number b run =
-    onParsed (routineOf s (b .values) (b .count + 1) (run .at)) (λ k p. refusal (length s) k p b) (λ value over added mark next.
-    routinesOf n s number (boundsWith b value) (progressWith run (b .count + 1) number value over next))
+routinesOf zero s number b progress = verdictOf (length s) b progress
+routinesOf (suc n) s number b progress =
+    onParsed (routineOf s (b .values) (b .count + 1) (progress .at)) (λ k p. refusal (length s) k p b) (λ value over added mark next.
+    routinesOf n s number (boundsWith b value) (progressWith progress (b .count + 1) number value over next))
 
 -- the sheet record, then its routines
 unfoldable pub sheetOf : List ℕ → ℕ → Report
@@ -152,7 +153,7 @@ readOf s number = pick (ltb 60000 (length s)) (refusal (length s) 2 0 noBounds) 
 
 -- What the readers are lent: the bounds of earlier routines, and room for the marked branches; at least 8 bytes stand for each that is held.
 pub record Lent (s bounds marks : List ℕ) (own product held at : ℕ) : Type 0 where
-  pub small : (i : ℕ) → getD bounds i 0 ≤ 1099511627775
+  pub small : (i : ℕ) → getD bounds i 0 ≤ valueLimit
   pub few : own ≤ 64
   pub passes : product ≤ 1000000
   pub room : length s ≤ 8 * length marks

@@ -5,6 +5,7 @@ use mathlib.Core.Path.{_≡_}
 use mathlib.Core.Bool.{Bool, true, false, not}
 use mathlib.Core.List.{List, [], _∷_, _++_}
 use lib.Dec.{ltb, eqb}
+use Rattle.meaning.specs.Answer.{valueLimit}
 use Rattle.meaning.specs.Format.{pick}
 use Rattle.records.specs.declared.Cursor.{Cursor}
 use Rattle.reader.specs.declared.Share.{Share}
@@ -56,16 +57,16 @@ unfoldable pub keptOf : ℕ → ℕ → ℕ → ℕ → List ℕ → List ℕ
 keptOf kind i value mark marks = pick (eqb mark 0) marks (pick (isBranch kind i) (marks ++ ((value * 1048576 + (mark - 1)) ∷ [])) marks)
 
 -- a record ends
-abbrev pub part : ℕ → ℕ → ℕ → ℕ → Cursor → Share
-part value over added mark next = record { value = value; over = over; added = added; mark = mark; next = next }
+abbrev pub share : ℕ → ℕ → ℕ → ℕ → Cursor → Share
+share value over added mark next = record { value = value; over = over; added = added; mark = mark; next = next }
 
 unfoldable pub endedOf : ℕ → ℕ → ℕ → ℕ → ℕ → Cursor → Parsed
 endedOf value over added mark start next =
     pick (eqb over 0)
-    (pick (ltb 1099511627775 value) (Done (part 0 start added mark next))
+    (pick (ltb valueLimit value) (Done (share 0 start added mark next))
     (pick (pick (eqb added 0) (eqb mark 0) false) (Plain value next)
-    (Done (part value 0 added mark next))))
-    (Done (part 0 over added mark next))
+    (Done (share value 0 added mark next))))
+    (Done (share 0 over added mark next))
 
 -- its value, and what its markers add: to itself, if it is a scope
 abbrev pub valueOf : ℕ → ℕ → Tally → ℕ
@@ -80,7 +81,7 @@ closeOf kind first second t more start next =
 -- The ranges that keep every sum in 64 bits.
 -- the most that a child adds; the most that all add
 abbrev pub heaviest : ℕ → ℕ
-heaviest kind = pick (isLoop kind) 1099512727286627775 1099511627775
+heaviest kind = pick (isLoop kind) 1099512727286627775 valueLimit
 
 abbrev pub heaviestSum : ℕ
 heaviestSum = 4398050909146511100
@@ -90,13 +91,13 @@ pub record Counts (kind count : ℕ) : Type 0 where
 
 pub record Held (kind i : ℕ) (t : Tally) : Type 0 where
   pub sum : t .sum ≤ i * heaviest kind
-  pub top : t .top ≤ 1099511627775
+  pub top : t .top ≤ valueLimit
   pub added : t .added ≤ valueCap
   pub mark : t .mark ≤ 1000001
 
 -- what is told of a construct from a place on, in a sheet of so many bytes
 pub record Told (long at v e m : ℕ) (next : Cursor) : Type 0 where
-  pub value : v ≤ 1099511627775
+  pub value : v ≤ valueLimit
   pub added : e ≤ valueCap
   pub mark : m ≤ 1000001
   pub past : at + 8 ≤ next .at

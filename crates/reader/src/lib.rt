@@ -7,7 +7,8 @@ ghost use Prim.Native.Nat.{_+_, _*_, _≤_, _<_, min, max};
 ghost use mathlib.Core.List.{[]};
 ghost use lib.ListN.{length, take};
 ghost use Rattle.meaning.specs.Format.{pick};
-ghost use Rattle.reader.specs.Tallies.{valueCap, chargeOf, chargesOf, counted, isBranch, noTally, withOf, keptOf, part, endedOf, closeOf};
+ghost use Rattle.meaning.specs.Answer.{valueLimit};
+ghost use Rattle.reader.specs.Tallies.{valueCap, chargeOf, chargesOf, counted, isBranch, noTally, withOf, keptOf, share, endedOf, closeOf};
 ghost use Rattle.reader.specs.Tallies.{heaviest, heaviestSum, Counts, Held, Tells};
 ghost use Rattle.reader.specs.Ways.{leadOf, bodyOf, innerOf, ways, waysOf, wayOf};
 ghost use Rattle.reader.specs.Reader.{aloneOf, Alone, listOf, constructOf, routineOf, noBounds, progressFrom, progressWith, refusal, verdictOf, routinesOf, sheetOf, readOf};
@@ -61,7 +62,7 @@ pub enum Parsed {
 }
 
 // How the children of a record stand to a scope (records, Records.reachOf): the first, the third, the others; the last branch where all others
-// are marked stands as 4. inner: the passes that the counts allow them.
+// are marked stands as 4. branches: how many an alternative in a scope has, 0 for any other record. inner: the passes that the counts allow.
 pub struct Ways {
     pub lead: u64,
     pub third: u64,
@@ -70,7 +71,7 @@ pub struct Ways {
     pub inner: u64,
 }
 
-// What the children read so far come to.
+// What the children read so far come to. top: the largest plain branch.
 pub struct Tally {
     pub sum: u64,
     pub top: u64,
@@ -219,7 +220,7 @@ fn ways_of(kind: u64, first: u64, second: u64, standing: u64, product: u64) -> W
 }
 
 impl Ways {
-    // How child i stands, where so many branches before it are marked.
+    // How child i stands, where so many branches before it are marked: fewer than 2^61, since 8 bytes stand for each.
     fn of(self, i: u64, marked: u64) -> u64
         requires { ⌜ marked < 2305843009213693952 ⌝ }
         ensures { λ r. ⌜ r ≡ wayOf self i marked ⌝ }
@@ -237,7 +238,7 @@ impl Ways {
 // What child i adds to its owner's value: a head loop's condition runs once more than its body, a tail loop's as often.
 fn counted(kind: u64, count: u64, i: u64, v: u64) -> u64
     requires { ⌜ Counts kind count ⌝ }
-    requires { ⌜ v ≤ 1099511627775 ⌝ }
+    requires { ⌜ v ≤ valueLimit ⌝ }
     ensures { λ r. ⌜ (r ≡ counted kind count i v) × (r ≤ heaviest kind) ⌝ }
 {
     match kind {
@@ -279,7 +280,7 @@ impl Tally {
         requires { ⌜ Counts kind count ⌝ }
         requires { ⌜ Held kind i self ⌝ }
         requires { ⌜ (i + 1) * heaviest kind ≤ heaviestSum ⌝ }
-        requires { ⌜ v ≤ 1099511627775 ⌝ }
+        requires { ⌜ v ≤ valueLimit ⌝ }
         ensures { λ r. ⌜ r ≡ withOf kind count i self v 0 0 0 ⌝ }
         ensures { λ r. ⌜ Held kind (i + 1) r ⌝ }
     {
@@ -302,7 +303,7 @@ impl Tally {
         requires { ⌜ Counts kind count ⌝ }
         requires { ⌜ Held kind i self ⌝ }
         requires { ⌜ (i + 1) * heaviest kind ≤ heaviestSum ⌝ }
-        requires { ⌜ (p .value ≤ 1099511627775) × (p .added ≤ valueCap) × (p .mark ≤ 1000001) ⌝ }
+        requires { ⌜ (p .value ≤ valueLimit) × (p .added ≤ valueCap) × (p .mark ≤ 1000001) ⌝ }
         ensures { λ r. ⌜ r ≡ withOf kind count i self (p .value) (p .over) (p .added) (p .mark) ⌝ }
         ensures { λ r. ⌜ Held kind (i + 1) r ⌝ }
     {
@@ -321,7 +322,7 @@ impl Tally {
 
 // A marked branch kept after those that are held: its value and its limit. The number then held.
 fn keep(marks: &mut [u64], held: usize, kind: u64, i: u64, p: Share) -> usize
-    requires { ⌜ (held < length (now marks)) × (p .value ≤ 1099511627775) × (p .mark ≤ 1000001) ⌝ }
+    requires { ⌜ (held < length (now marks)) × (p .value ≤ valueLimit) × (p .mark ≤ 1000001) ⌝ }
     ensures { λ r. ⌜ r ≡ length (keptOf kind i (p .value) (p .mark) (take held (now (marks .entry)))) ⌝ }
     ensures { λ r. ⌜ take r (now (marks .exit)) ≡ keptOf kind i (p .value) (p .mark) (take held (now (marks .entry))) ⌝ }
     ensures { λ r. ⌜ length (now (marks .exit)) ≡ length (now (marks .entry)) ⌝ }
@@ -337,7 +338,7 @@ fn keep(marks: &mut [u64], held: usize, kind: u64, i: u64, p: Share) -> usize
 }
 
 fn done(value: u64, over: usize, added: u64, mark: u64, next: Cursor) -> Parsed
-    ensures { λ r. ⌜ r ≡ Parsed.Done (part value over added mark next) ⌝ }
+    ensures { λ r. ⌜ r ≡ Parsed.Done (share value over added mark next) ⌝ }
 {
     Parsed::Done(Share {
         value,
@@ -377,7 +378,7 @@ fn close(
     start: usize,
     next: Cursor,
 ) -> Parsed
-    requires { ⌜ (t .sum ≤ heaviestSum) × (t .top ≤ 1099511627775) × (t .added ≤ valueCap) ⌝ }
+    requires { ⌜ (t .sum ≤ heaviestSum) × (t .top ≤ valueLimit) × (t .added ≤ valueCap) ⌝ }
     requires { ⌜ (first ≤ 4294967295) × (more ≤ valueCap) ⌝ }
     ensures { λ r. ⌜ r ≡ closeOf kind first second t more start next ⌝ }
 {
@@ -488,18 +489,8 @@ fn list(
     let mut at = c;
     let mut i: u64 = 0;
     while i < n {
-        let standing_of_child = w.of(i, (held - base) as u64);
-        match construct(
-            s,
-            at,
-            bounds,
-            own,
-            left,
-            marks,
-            held,
-            standing_of_child,
-            w.inner,
-        ) {
+        let way = w.of(i, (held - base) as u64);
+        match construct(s, at, bounds, own, left, marks, held, way, w.inner) {
             Parsed::Refused(number, place) => {
                 return Parsed::Refused(number, place);
             }
@@ -608,21 +599,21 @@ fn refused(long: usize, number: u64, place: usize, bounds: Bounds) -> Report
 }
 
 // EXTRA, then TOO BIG, then the last routine's bound.
-fn verdict(long: usize, bounds: Bounds, run: Progress) -> Report
-    ensures { λ r. ⌜ r ≡ verdictOf long bounds run ⌝ }
+fn verdict(long: usize, bounds: Bounds, progress: Progress) -> Report
+    ensures { λ r. ⌜ r ≡ verdictOf long bounds progress ⌝ }
 {
-    let past = run.at.at;
+    let past = progress.at.at;
     if past < long {
         return refused(long, 11, past, bounds);
     }
-    if run.over != 0 {
-        return refused(long, 12, run.over, bounds);
+    if progress.over != 0 {
+        return refused(long, 12, progress.over, bounds);
     }
     Report {
-        answer: Answer::Accepted(run.last),
+        answer: Answer::Accepted(progress.last),
         bounds,
-        start: run.start,
-        end: run.end,
+        start: progress.start,
+        end: progress.end,
     }
 }
 
@@ -632,16 +623,16 @@ fn routines(s: &[u8], c: Cursor, n: u64, number: u64, marks: &mut [u64]) -> Repo
     ensures { λ r. ⌜ r ≡ routinesOf n (now (s .entry)) number noBounds (progressFrom (length (now (s .entry))) c) ⌝ }
 {
     let mut b = Bounds::none();
-    let mut run = Progress::from(s.len(), c);
+    let mut progress = Progress::from(s.len(), c);
     while b.count < n {
         let own = b.count + 1;
-        let at = run.at;
+        let at = progress.at;
         match routine(s, at, &b.values, own, marks) {
             Parsed::Refused(k, p) => {
                 return refused(s.len(), k, p, b);
             }
             Parsed::Plain(v, next) => {
-                run = run.with(own, number, v, 0, next);
+                progress = progress.with(own, number, v, 0, next);
                 let i = b.count as usize;
                 b.values[i] = v;
                 b.count = own;
@@ -649,7 +640,7 @@ fn routines(s: &[u8], c: Cursor, n: u64, number: u64, marks: &mut [u64]) -> Repo
             }
             Parsed::Done(p) => {
                 let next = p.next;
-                run = run.with(own, number, p.value, p.over, next);
+                progress = progress.with(own, number, p.value, p.over, next);
                 let i = b.count as usize;
                 b.values[i] = p.value;
                 b.count = own;
@@ -657,7 +648,7 @@ fn routines(s: &[u8], c: Cursor, n: u64, number: u64, marks: &mut [u64]) -> Repo
             }
         }
     }
-    verdict(s.len(), b, run)
+    verdict(s.len(), b, progress)
 }
 
 // The sheet record, then its routines.

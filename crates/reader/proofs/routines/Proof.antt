@@ -1,4 +1,4 @@
--- The loop of `routines` keeps `Under`: each routine read is a `Turn`, which hands the bounds and the run on. The measure is what is left of the count.
+-- The loop of `routines` keeps `Under`: each routine read is a `Turn`, which hands the bounds and the progress on. The measure is what is left of the count.
 use Prim.Native.Nat.{_-_, _<_}
 use mathlib.Core.Path.{sym}
 use native.Mathlib.Omega.{arith}
@@ -8,10 +8,10 @@ use Rattle.reader.proofs.routines.Statement.{statement}
 use Rattle.reader.proofs.routines.Tie as tie
 
 abbrev Inv-loop : tie.InvT-loop
-Inv-loop s n number marks₀ b₀ run₀ marks b run = Under n s marks₀ number b₀ run₀ marks b run
+Inv-loop s n number marks₀ b₀ run₀ marks b progress = Under n s marks₀ number b₀ run₀ marks b progress
 
 abbrev μ-loop : tie.MeasureT-loop
-μ-loop s n number marks₀ b₀ run₀ marks b run = n - b .count
+μ-loop s n number marks₀ b₀ run₀ marks b progress = n - b .count
 
 -- a routine was read
 abbrev start : tie.After-routine Inv-loop μ-loop → tie.Start Inv-loop μ-loop
@@ -23,7 +23,7 @@ loop c = c .before .before .before .before .before .before
 turn : (c : tie.After-routine Inv-loop μ-loop) →
     let a = start c .args in
     let l = loop c .loop in
-    Turn (a .n) (a .s .now) (a .marks .now) (a .number) (loop c .before .before .none .result) (loop c .before .from .result) (l .marks) (l .b) (l .run)
+    Turn (a .n) (a .s .now) (a .marks .now) (a .number) (loop c .before .before .none .result) (loop c .before .from .result) (l .marks) (l .b) (l .progress)
     (c .routine .last .1 .1 .1 .1 .0) (c .routine .result)
 turn c = record {
   under = loop c .loop .inv;
@@ -123,7 +123,7 @@ returns-2 : tie.Need-returns-2 Inv-loop μ-loop
 returns-2 c =
     let at = c .before .before in
     let a = at .before .before .before .before .before .args in
-    let end = routines-end (a .n) (a .s .now) (a .number) (at .loop .b) (at .loop .run) (c .before .loop-test .left) in
+    let end = routines-end (a .n) (a .s .now) (a .number) (at .loop .b) (at .loop .progress) (c .before .loop-test .left) in
     rw (c .verdict .ensures, ← at .before .from .ensures, ← at .before .before .none .ensures, ← at .loop .inv .same) (sym end)
 
 pub routines-spec : {M : Type 1} → statement M
