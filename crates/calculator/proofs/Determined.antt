@@ -8,6 +8,9 @@ use denote.Triple.Clauses.{AtExit}
 use Rattle.reader.specs.declared.Answer.{Answer}
 use Rattle.reader.specs.declared.Answer.the-variants.{Accepted, Refused}
 use Rattle.reader.specs.Said.{saidOf}
+use Rattle.calculator.proofs.fill as fill
+use Rattle.calculator.proofs.fill.Kinds as fill-kinds
+use Rattle.calculator.proofs.fill.Reads as fill-reads
 use Rattle.calculator.proofs.maxt as maxt
 use Rattle.calculator.proofs.maxt.Kinds as maxt-kinds
 use Rattle.calculator.proofs.maxt.Reads as maxt-reads
@@ -25,6 +28,14 @@ one-answer (Accepted x) (Accepted y) e = cc
 one-answer (Accepted x) (Refused n p) e = cc
 one-answer (Refused n p) (Accepted y) e = cc
 one-answer (Refused n p) (Refused m q) e = cc
+
+-- `fill`: of the sheet a .0 and the table a .1 .0, the answer and the number of routines r and the table after, s .1 .0
+module _ (κs : Lfts 2) (a : ArgsD fill.signature κs) where
+  pub fill-determined : (r q : ResD fill.signature κs) (s u : AtExit (endedOf 2 fill-kinds.ps fill-kinds.r) κs) → fill-reads.Post κs a r s →
+      fill-reads.Post κs a q u → (r ≡ q) × (s .1 .0 .now ≡ u .1 .0 .now)
+  fill-determined r q s u m n =
+      let same = one-answer (r .answer) (q .answer) (m .0 ∙ sym (n .0)) in
+      (λ i. record { answer = same i; routines = (m .1 .0 ∙ sym (n .1 .0)) i }, m .1 .1 .0 ∙ sym (n .1 .1 .0))
 
 -- `maxt`: of the sheet a .0 and the table a .1 .0, the answer r and the table after, s .1 .0
 module _ (κs : Lfts 2) (a : ArgsD maxt.signature κs) where

@@ -1,25 +1,28 @@
 -- From what the reading of a sheet reports to what the calculator promises.
 use Prim.Native.Nat.{ℕ, suc, _+_, _-_, _≤_, _<_}
-use mathlib.Core.Path.{_≡_, refl, sym, _∙_}
+use mathlib.Core.Path.{_≡_, refl, sym, ap, _∙_}
 use mathlib.Core.Bool.{true, false, false≢true}
-use mathlib.Core.List.{List, _++_, append-assoc}
-use lib.ListN.{length, getD, set, take, drop, length-take}
-use lib.Seq.{drop-cons, set-at, take-suc}
+use mathlib.Core.List.{List, [], _++_, append-assoc, append-nil}
+use lib.ListN.{length, getD, set, take, drop, length-append, length-take, length-drop}
+use lib.Seq.{drop-cons, drop-nil, set-at, take-suc}
 use borrow.Author.Tests.{lt-ltb, le-ltb}
 use native.Mathlib.Omega.{arith}
 use native.Mathlib.Numerals.{add-one}
 use Rattle.meaning.specs.Tree.{Sheet}
+use Rattle.meaning.specs.Value.{nothing, boundsOf}
 use Rattle.meaning.specs.Answer.{Verdict, accepted, refused, outcome, told, answer, stored, tableAfter, boundIn, partOf, routinePart}
+use Rattle.runs.proofs.Reached.{length-bounds}
 use Rattle.demands.proofs.Span.{AreBytes}
 use Rattle.demands.proofs.Parts.{part-inside}
 use Rattle.reader.specs.declared.Answer.{Answer}
 use Rattle.reader.specs.declared.Answer.the-variants.{Accepted, Refused}
+use Rattle.reader.specs.declared.Bounds.{Bounds}
 use Rattle.reader.specs.declared.Report.{Report}
 use Rattle.reader.specs.Said.{saidOf}
 use Rattle.reader.specs.Reports.{storedOf}
 use Rattle.bridge.proofs.Law.{Reported}
 use Rattle.calculator.specs.declared.Places.{Places}
-use Rattle.calculator.specs.Promises.{partAt}
+use Rattle.calculator.specs.Promises.{filledBy, filled, partAt}
 use Rattle.calculator.specs.Steps.{isAccepted}
 
 -- one place more of the table
@@ -28,34 +31,60 @@ stored-more v t i h k =
     let l : length (take i v) ≡ i = simp length-take (omega arith) in
     rw (drop-cons t i 0, set-at (take i v) (getD t i 0) (drop (suc i) t) (getD v i 0) i l, add-one i, take-suc v i 0, append-assoc)
 
--- NO ROOM
-pub no-room : (s table : List ℕ) → length table < 64 → (refused 1 0 ≡ answer s (length table)) × (table ≡ tableAfter s table)
-unfolding answer tableAfter
-no-room s table h = rw (lt-ltb (length table) 64 h) (refl, refl)
+-- what `fill` promises: what is said, of how many routines, and the table after
+abbrev Meets : List ℕ → List ℕ → Verdict ℕ → ℕ → List ℕ → Type 0
+Meets s table said routines after =
+    (said ≡ answer s (length table)) × ((routines ≡ filled s (length table)) × ((after ≡ tableAfter s table) × (routines ≤ 64)))
 
--- a sheet that is refused stores nothing
-none-stored : (v : Verdict Sheet) {number place : ℕ} (table : List ℕ) → refused number place ≡ told v → table ≡ stored v table
-none-stored (accepted t) table e = cc
-none-stored (refused n p) table e = refl
+-- NO ROOM
+pub no-room : (s table : List ℕ) → length table < 64 → Meets s table (refused 1 0) 0 table
+unfolding answer filled tableAfter
+no-room s table h = rw (lt-ltb (length table) 64 h) (refl, (refl, (refl, omega arith)))
+
+-- a sheet that is refused fills and stores nothing
+none-filled : (v : Verdict Sheet) {number place : ℕ} (table : List ℕ) → refused number place ≡ told v → (0 ≡ filledBy v) × (table ≡ stored v table)
+none-filled (accepted t) table e = (cc, cc)
+none-filled (refused n p) table e = (refl, refl)
+
+refused-by : (a : Answer) → isAccepted a ≡ false → (s table : List ℕ) → saidOf a ≡ told (outcome s) → (0 ≡ filledBy (outcome s)) × (table ≡ stored (outcome s) table)
+refused-by (Accepted bound) e s table said = absurd (false≢true (sym e))
+refused-by (Refused number place) e s table said = none-filled (outcome s) table said
 
 -- an accepted answer has a bound
 accepted-with : (a : Answer) → isAccepted a ≡ true → a ≡ Accepted (boundIn (saidOf a))
 accepted-with (Accepted bound) e = refl
 accepted-with (Refused number place) e = absurd (false≢true e)
 
-refused-by : (a : Answer) → isAccepted a ≡ false → (s table : List ℕ) → saidOf a ≡ told (outcome s) → table ≡ stored (outcome s) table
-refused-by (Accepted bound) e s table said = absurd (false≢true (sym e))
-refused-by (Refused number place) e s table said = none-stored (outcome s) table said
+-- the bounds that are kept are as many as the routines: what is stored in an empty table and in one with room for all has the same lengths
+one-each : (v : Verdict Sheet) (b : Bounds) (bound : ℕ) (table : List ℕ) → accepted bound ≡ told v → b .count ≤ length table →
+    ((t : List ℕ) → storedOf b t ≡ stored v t) → b .count ≡ filledBy v
+one-each (refused n p) b bound table e few same = cc
+one-each (accepted t) b bound table e few same =
+    let kept : take (b .count) (b .values) ≡ boundsOf t = rw (drop-nil {A = ℕ} (b .count), drop-nil {A = ℕ} (length (t .routines)), append-nil (take (b .count) (b .values)), append-nil (boundsOf t)) at (same []) in
+    let n = length-bounds nothing (t .routines) in
+    let m = length-take (b .count) (b .values) in
+    let l = ap length kept in
+    let all : length (boundsOf t ++ drop (b .count) table) ≡ length (boundsOf t ++ drop (length (t .routines)) table) = ap length (rw kept at (same table)) in
+    let a = length-append (boundsOf t) (drop (b .count) table) in
+    let d = length-append (boundsOf t) (drop (length (t .routines)) table) in
+    let x = length-drop (b .count) table in
+    let y = length-drop (length (t .routines)) table in
+    omega arith
 
 module _ {s : List ℕ} (table : List ℕ) (room : 64 ≤ length table) {report : Report} (reported : Reported s 0 report) where
-  pub refuses : isAccepted (report .answer) ≡ false → (saidOf (report .answer) ≡ answer s (length table)) × (table ≡ tableAfter s table)
-  unfolding answer tableAfter
-  refuses e = rw (le-ltb (length table) 64 room) (reported .said, refused-by (report .answer) e s table (reported .said))
+  pub refuses : isAccepted (report .answer) ≡ false → Meets s table (saidOf (report .answer)) 0 table
+  unfolding answer filled tableAfter
+  refuses e =
+      let nothing-stored = refused-by (report .answer) e s table (reported .said) in
+      rw (le-ltb (length table) 64 room) (reported .said, (nothing-stored .0, (nothing-stored .1, omega arith)))
 
-  pub accepts : {after : List ℕ} → isAccepted (report .answer) ≡ true → after ≡ storedOf (report .bounds) table →
-      (saidOf (report .answer) ≡ answer s (length table)) × (after ≡ tableAfter s table)
-  unfolding answer tableAfter
-  accepts e f = rw (le-ltb (length table) 64 room) (reported .said, f ∙ reported .kept _ (accepted-with (report .answer) e) table)
+  pub accepts : {after : List ℕ} → isAccepted (report .answer) ≡ true → report .bounds .count ≤ 64 →
+      after ≡ storedOf (report .bounds) table → Meets s table (saidOf (report .answer)) (report .bounds .count) after
+  unfolding answer filled tableAfter
+  accepts e few f =
+      let is = accepted-with (report .answer) e in
+      let all = one-each (outcome s) (report .bounds) _ table (sym (ap saidOf is) ∙ reported .said) (omega arith) (reported .kept _ is) in
+      rw (le-ltb (length table) 64 room) (reported .said, (all, (f ∙ reported .kept _ is table, few)))
 
 module _ (s : List ℕ) (number : ℕ) {p : Places} (same : partAt p ≡ partOf s number) where
   pub inside : AreBytes s → (p .start ≤ p .end) × (p .end ≤ length s)

@@ -7,13 +7,19 @@ ghost use lib.ListN.{length};
 ghost use Rattle.meaning.specs.Answer.{answer, tableAfter, partOf, routinePart};
 ghost use Rattle.reader.specs.Said.{saidOf};
 ghost use Rattle.reader.specs.Reports.{storedOf};
-ghost use Rattle.calculator.specs.Promises.{partAt};
+ghost use Rattle.calculator.specs.Promises.{filled, partAt};
 ghost use Rattle.calculator.specs.Steps.{isAccepted};
 
 // Where the records of a routine start and end.
 pub struct Places {
     pub start: usize,
     pub end: usize,
+}
+
+// What comes back: the answer, and of how many routines the table holds the bounds.
+pub struct Filled {
+    pub answer: Answer,
+    pub routines: u64,
 }
 
 fn is_accepted(answer: Answer) -> bool
@@ -38,22 +44,43 @@ fn copy_out(b: Bounds, table: &mut [u64])
     }
 }
 
-// The answer to a sheet; on acceptance the table holds the bounds of its routines.
-pub fn maxt(sheet: &[u8], table: &mut [u64]) -> Answer
-    ensures { λ r. ⌜ saidOf r ≡ answer (now (sheet .entry)) (length (now (table .entry))) ⌝ }
+// Answers a sheet and, on acceptance, fills the table with the bounds of its routines.
+pub fn fill(sheet: &[u8], table: &mut [u64]) -> Filled
+    ensures { λ r. ⌜ saidOf (r .answer) ≡ answer (now (sheet .entry)) (length (now (table .entry))) ⌝ }
+    ensures { λ r. ⌜ r .routines ≡ filled (now (sheet .entry)) (length (now (table .entry))) ⌝ }
     ensures { λ _. ⌜ now (table .exit) ≡ tableAfter (now (sheet .entry)) (now (table .entry)) ⌝ }
+    ensures { λ r. ⌜ r .routines ≤ 64 ⌝ }
 {
     if table.len() < 64 {
-        return Answer::Refused(1, 0);
+        return Filled {
+            answer: Answer::Refused(1, 0),
+            routines: 0,
+        };
     }
     let report = reader::read(sheet, 0);
     let answer = report.answer;
     if is_accepted(answer) {
         let b = report.bounds;
+        let routines = b.count;
         copy_out(b, table);
-        return answer;
+        return Filled {
+            answer: answer,
+            routines: routines,
+        };
     }
-    answer
+    Filled {
+        answer: answer,
+        routines: 0,
+    }
+}
+
+// The answer to a sheet; on acceptance the table holds the bounds of its routines.
+pub fn maxt(sheet: &[u8], table: &mut [u64]) -> Answer
+    ensures { λ r. ⌜ saidOf r ≡ answer (now (sheet .entry)) (length (now (table .entry))) ⌝ }
+    ensures { λ _. ⌜ now (table .exit) ≡ tableAfter (now (sheet .entry)) (now (table .entry)) ⌝ }
+{
+    let f = fill(sheet, table);
+    f.answer
 }
 
 // Where a routine's records start and end; the sheet's end for both where there is no such routine.

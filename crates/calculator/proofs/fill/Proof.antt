@@ -1,11 +1,11 @@
--- `maxt` meets its contract: what was read reports what the definitions say (`read-law`), and only an accepted sheet is stored.
+-- `fill` meets its contract: what was read reports what the definitions say (`read-law`), and only an accepted sheet is stored.
 use Rattle.calculator.proofs.Laws.{no-room, refuses, accepts}
 use Rattle.bridge.proofs.Law.{read-law}
 use Rattle.reader.proofs.Few.{few-read}
 use mathlib.Core.Path.{sym, _∙_}
 use borrow.Author.Needs.{needs}
-use Rattle.calculator.proofs.maxt.Statement.{statement}
-use Rattle.calculator.proofs.maxt.Tie as tie
+use Rattle.calculator.proofs.fill.Statement.{statement}
+use Rattle.calculator.proofs.fill.Tie as tie
 
 returns : tie.Need-returns
 returns c = no-room (c .before .before .before .args .sheet .now) (c .before .before .before .args .table .now) (c .if1 .taken)
@@ -28,15 +28,16 @@ returns-2 : tie.Need-returns-2
 returns-2 c =
     let test = c .before .before .before .before .before in
     let read = test .before .before in
-    accepts _ (read .before .if1 .left) {report = read .read .result} (rw (read .read .ensures) (read-law _ 0)) (sym (test .before .is-accepted .ensures) ∙ test .if2 .taken) (c .before .before .copy-out .ensures)
+    accepts _ (read .before .if1 .left) {report = read .read .result} (rw (read .read .ensures) (read-law _ 0)) (sym (test .before .is-accepted .ensures) ∙ test .if2 .taken)
+    (rw (read .read .ensures) (few-read _ 0 .few)) (c .before .before .copy-out .ensures)
 
 returns-3 : tie.Need-returns-3
 returns-3 c =
     let read = c .before .before in
     refuses _ (read .before .if1 .left) {report = read .read .result} (rw (read .read .ensures) (read-law _ 0)) (sym (c .before .is-accepted .ensures) ∙ c .if2 .left)
 
-pub maxt-spec : {M : Type 1} → statement M
-maxt-spec =
+pub fill-spec : {M : Type 1} → statement M
+fill-spec =
     tie.close
     (tie.spec
     returns
