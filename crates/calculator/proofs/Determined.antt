@@ -1,5 +1,4 @@
 -- Each public contract determines its outcome: any two outcomes that meet it, as the prover states it (`Post`), are equal.
-use Prim.Native.Nat.{ℕ}
 use mathlib.Core.Path.{_≡_, sym, ap, _∙_}
 use contract.Lifetimes.{Lfts}
 use borrow.Fn.World.{ArgsD, ResD}

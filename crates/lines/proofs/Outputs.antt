@@ -2,7 +2,7 @@
 use Prim.Native.Nat.{ℕ, _+_, _*_, _≤_}
 use mathlib.Core.Bool.{false}
 use lib.Dec.{ltb}
-use mathlib.Core.Path.{_≡_, refl, sym, ap, _∙_}
+use mathlib.Core.Path.{_≡_, sym, ap, _∙_}
 use mathlib.Core.List.{List, _++_}
 use lib.ListN.{length, take, drop}
 use lib.Seq.{sets, sets-eq, length-sets, take-at, take-append-seam}

@@ -17,7 +17,7 @@ letters (c before s) = code c ∷ letters s
 abbrev pub digit : ℕ → List ℕ
 digit d = (48 + d) ∷ []
 
-unfoldable pub leading : ℕ → ℕ → List ℕ  -- in at most so many steps
+unfoldable pub leading : ℕ → ℕ → List ℕ  -- in at most so many steps; as many as the number counts are enough
 leading zero n = []
 leading (suc steps) zero = []
 leading (suc steps) (suc n) = leading steps (suc n / 10) ++ digit (suc n % 10)

@@ -1,14 +1,11 @@
 // What the program `maxt` prints for a sheet, as bytes: a line for each routine and one for the bound, or the refusal.
-use calculator::Filled;
 use reader::Answer;
 ghost use mathlib.Core.Path.{_≡_};
-ghost use Prim.Native.Nat.{_+_, _*_, _≤_, _<_};
-ghost use mathlib.Core.List.{List, _++_};
-ghost use lib.ListN.{length, take, drop};
+ghost use Prim.Native.Nat.{_+_, _*_, _≤_};
+ghost use mathlib.Core.List.{_++_};
+ghost use lib.ListN.{length, take};
 ghost use lib.Seq.{sets};
 ghost use Rattle.io.specs.Counts.{Counts};
-ghost use Rattle.meaning.specs.Answer.{boundIn};
-ghost use Rattle.reader.specs.Said.{saidOf};
 ghost use Rattle.lines.specs.Output.{line, named, routineLine, routineLines, boundLine, refusedLine, output, onto};
 
 // The bytes at a place of the page, and the place after them.

@@ -3,8 +3,7 @@ use Rattle.lines.proofs.Laws.{put-more}
 use lib.ListN.{length, take, length-set}
 use lib.Seq.{sets, take-length}
 use mathlib.Core.Path.{_≡_, refl}
-use Prim.Native.Nat.{_+_, _≤_, _-_}
-use borrow.Author.Needs.{needs}
+use Prim.Native.Nat.{_≤_, _-_}
 use native.Mathlib.Omega.{arith}
 use Rattle.lines.proofs.put.Statement.{statement}
 use Rattle.lines.proofs.put.Tie as tie
