@@ -46,7 +46,8 @@ none-filled : (v : Verdict Sheet) {number place : ℕ} (table : List ℕ) → re
 none-filled (accepted t) table e = (cc, cc)
 none-filled (refused n p) table e = (refl, refl)
 
-refused-by : (a : Answer) → isAccepted a ≡ false → (s table : List ℕ) → saidOf a ≡ told (outcome s) → (0 ≡ filledBy (outcome s)) × (table ≡ stored (outcome s) table)
+refused-by : (a : Answer) → isAccepted a ≡ false → (s table : List ℕ) → saidOf a ≡ told (outcome s) →
+    (0 ≡ filledBy (outcome s)) × (table ≡ stored (outcome s) table)
 refused-by (Accepted bound) e s table said = absurd (false≢true (sym e))
 refused-by (Refused number place) e s table said = none-filled (outcome s) table said
 
@@ -60,23 +61,29 @@ one-each : (v : Verdict Sheet) (b : Bounds) (bound : ℕ) (table : List ℕ) →
     ((t : List ℕ) → storedOf b t ≡ stored v t) → b .count ≡ filledBy v
 one-each (refused n p) b bound table e few same = cc
 one-each (accepted t) b bound table e few same =
-    let kept : take (b .count) (b .values) ≡ boundsOf t = rw (drop-nil {A = ℕ} (b .count), drop-nil {A = ℕ} (length (t .routines)), append-nil (take (b .count) (b .values)), append-nil (boundsOf t)) at (same []) in
-    let n = length-bounds nothing (t .routines) in
-    let m = length-take (b .count) (b .values) in
-    let l = ap length kept in
-    let all : length (boundsOf t ++ drop (b .count) table) ≡ length (boundsOf t ++ drop (length (t .routines)) table) = ap length (rw kept at (same table)) in
-    let a = length-append (boundsOf t) (drop (b .count) table) in
-    let d = length-append (boundsOf t) (drop (length (t .routines)) table) in
-    let x = length-drop (b .count) table in
-    let y = length-drop (length (t .routines)) table in
-    omega arith
+    let count = length (t .routines) in
+    let no-more : storedOf b [] ≡ take (b .count) (b .values) = rw (drop-nil {A = ℕ} (b .count)) (append-nil (take (b .count) (b .values))) in
+    let none-left : stored (accepted t) [] ≡ boundsOf t = rw (drop-nil {A = ℕ} count) (append-nil (boundsOf t)) in
+    let kept : take (b .count) (b .values) ≡ boundsOf t = sym no-more ∙ same [] ∙ none-left in
+    let all : length (boundsOf t ++ drop (b .count) table) ≡ length (boundsOf t ++ drop count table) = ap length (rw kept at (same table)) in
+    omega (
+      arith,
+      length-take (b .count) (b .values),
+      ap length kept,
+      length-bounds nothing (t .routines),
+      all,
+      length-append (boundsOf t) (drop (b .count) table),
+      length-drop (b .count) table,
+      length-append (boundsOf t) (drop count table),
+      length-drop count table,
+    )
 
 module _ {s : List ℕ} (table : List ℕ) (room : 64 ≤ length table) {report : Report} (reported : Reported s 0 report) where
   pub refuses : isAccepted (report .answer) ≡ false → Meets s table (saidOf (report .answer)) 0 table
   unfolding answer filled tableAfter
   refuses e =
-      let nothing-stored = refused-by (report .answer) e s table (reported .said) in
-      rw (le-ltb (length table) 64 room) (reported .said, (nothing-stored .0, (nothing-stored .1, omega arith)))
+      let none = refused-by (report .answer) e s table (reported .said) in
+      rw (le-ltb (length table) 64 room) (reported .said, (none .0, (none .1, omega arith)))
 
   pub accepts : {after : List ℕ} → isAccepted (report .answer) ≡ true → report .bounds .count ≤ 64 →
       after ≡ storedOf (report .bounds) table → Meets s table (saidOf (report .answer)) (report .bounds .count) after

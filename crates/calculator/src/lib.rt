@@ -44,7 +44,8 @@ fn copy_out(b: Bounds, table: &mut [u64])
     }
 }
 
-// Answers a sheet and, on acceptance, fills the table with the bounds of its routines.
+// Answers a sheet and, on acceptance, fills the table with the bounds of its routines. That they are at most 64 follows from the rest, and is
+// said for those who count through the table.
 pub fn fill(sheet: &[u8], table: &mut [u64]) -> Filled
     ensures { λ r. ⌜ saidOf (r .answer) ≡ answer (now (sheet .entry)) (length (now (table .entry))) ⌝ }
     ensures { λ r. ⌜ r .routines ≡ filled (now (sheet .entry)) (length (now (table .entry))) ⌝ }

@@ -3,7 +3,7 @@ use libc::STDOUT_FILENO;
 ghost use mathlib.Core.Path.{_≡_};
 ghost use Prim.Native.Nat.{_≤_};
 ghost use lib.ListN.{length};
-ghost use Rattle.console.specs.Reading.{Within};
+ghost use Rattle.console.specs.Reading.{toldOf, Within};
 
 // How much was read before the end of the input or of the room for it, or that a read failed.
 enum Got {
@@ -18,17 +18,25 @@ fn no_input() -> [u8; 60001]
     [0; 60001]
 }
 
+// What a read into the rest of the room came to, by what it answered.
+fn told(answer: isize, rest: &[u8]) -> Got
+    ensures { λ r. ⌜ r ≡ toldOf answer (length (now (rest .entry))) ⌝ }
+    ensures { λ r. ⌜ Within (length (now (rest .entry))) 0 r ⌝ }
+{
+    if answer < 0 {
+        return Got::Failed;
+    }
+    Got::Bytes(io::count(answer, rest))
+}
+
 // One read into the room from a place on; no bytes at the end of the input.
 fn read_some(from: i32, input: &mut [u8], at: usize) -> Got
     requires { ⌜ at ≤ length (now input) ⌝ }
     ensures { λ r. ⌜ Within (length (now (input .entry))) at r ⌝ }
 {
     let rest = &mut input[at..];
-    let got = libc::read(from, rest);
-    if got < 0 {
-        return Got::Failed;
-    }
-    Got::Bytes(io::count(got, rest))
+    let answer = libc::read(from, rest);
+    told(answer, rest)
 }
 
 // Reads until the input or the room for it ends; what was read stands at the start.
@@ -54,7 +62,7 @@ fn print(sheet: &[u8]) {
     let mut page = io::buffer();
     let length = lines::print(sheet, &mut page);
     if !io::write_all(STDOUT_FILENO, &page[..length]) {
-        os::fail(b"maxt: standard output");
+        os::fail(b"standard output");
     }
 }
 

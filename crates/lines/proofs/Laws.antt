@@ -20,7 +20,8 @@ put-both page (x ∷ a) b at =
 abbrev pub Put : List ℕ → ℕ → List ℕ → ℕ → List ℕ → Type 0
 Put page at text next after = (next ≡ at + length text) × (after ≡ sets page at text)
 
-pub then : (page : List ℕ) (at : ℕ) (a b : List ℕ) {m n : ℕ} {mid after : List ℕ} → Put page at a m mid → Put mid m b n after → Put page at (a ++ b) n after
+pub then : (page : List ℕ) (at : ℕ) (a b : List ℕ) {m n : ℕ} {mid after : List ℕ} → Put page at a m mid → Put mid m b n after →
+    Put page at (a ++ b) n after
 then page at a b (e, f) (g, h) =
     let l = length-append a b in
     (omega arith, h ∙ rw (e, f) (put-both page a b at))
@@ -39,7 +40,11 @@ lines-snoc : (number : ℕ) (bounds : List ℕ) (b : ℕ) →
 lines-snoc number [] b = rw (append-nil (routineLine number b), add-zero number)
 lines-snoc number (x ∷ bounds) b =
     let e : number + suc (length bounds) ≡ number + 1 + length bounds = omega arith in
-    rw (lines-snoc (number + 1) bounds b, e, append-assoc (routineLine number x) (routineLines (number + 1) bounds) (routineLine (number + 1 + length bounds) b))
+    rw (
+      lines-snoc (number + 1) bounds b,
+      e,
+      append-assoc (routineLine number x) (routineLines (number + 1) bounds) (routineLine (number + 1 + length bounds) b),
+    )
 
 pub lines-more : (number : ℕ) (table : List ℕ) (i : ℕ) → i < length table →
     routineLines number (take (i + 1) table) ≡ routineLines number (take i table) ++ routineLine (number + i) (getD table i 0)

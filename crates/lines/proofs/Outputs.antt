@@ -36,7 +36,8 @@ lines-refused (refused n p) number place e = cc
 lines-refused (accepted t) number place e = cc
 
 -- a text at the start of a page with room for it
-page-after : (page text : List ℕ) {r : ℕ} {after : List ℕ} → Put page 0 text r after → r ≤ length page → (r ≡ length text) × ((after ≡ onto text page) × Counts r after)
+page-after : (page text : List ℕ) {r : ℕ} {after : List ℕ} → Put page 0 text r after → r ≤ length page →
+    (r ≡ length text) × ((after ≡ onto text page) × Counts r after)
 page-after page text (e, f) h =
     let n : _ ≡ length text = e ∙ zero-add (length text) in
     let laid : _ ≡ onto text page = f ∙ rw (zero-add (length text)) at (sets-eq text page 0 (rw (← e) h)) in
@@ -49,8 +50,8 @@ module _ (s table page : List ℕ) (room : 64 ≡ length table) (long : length p
   abbrev Printed : ℕ → List ℕ → Type 0
   Printed r last = (r ≡ length (output s)) × ((last ≡ onto (output s) page) × Counts r last)
 
-  enough : ltb (length table) 64 ≡ false
-  enough = le-ltb (length table) 64 (omega arith)
+  has-room : ltb (length table) 64 ≡ false
+  has-room = le-ltb (length table) 64 (omega arith)
 
   pub prints-bounds : {bound routines at r : ℕ} {after mid last : List ℕ} {a : Answer} → a ≡ Accepted bound → saidOf a ≡ answer s (length table) →
       (routines ≡ filled s (length table)) × ((after ≡ tableAfter s table) × (routines ≤ 64)) →
@@ -60,12 +61,12 @@ module _ (s table page : List ℕ) (room : 64 ≡ length table) (long : length p
   prints-bounds {bound} {routines} {after = after} is said (many, (kept, few)) (e, (f, under)) (g, (h, last-under)) =
       let both = then page 0 (routineLines 1 (take routines after)) (boundLine bound) (e ∙ sym (zero-add _), f) (g, h) in
       let out : output s ≡ routineLines 1 (take routines after) ++ boundLine bound =
-      rw (many, kept, enough) (lines-stored (outcome s) table bound (rw enough at (sym (ap saidOf is) ∙ said))) in
+      rw (many, kept, has-room) (lines-stored (outcome s) table bound (rw has-room at (sym (ap saidOf is) ∙ said))) in
       rw out (page-after page (routineLines 1 (take routines after) ++ boundLine bound) both (omega arith))
 
   pub prints-refusal : {number place r : ℕ} {last : List ℕ} {a : Answer} → a ≡ Refused number place → saidOf a ≡ answer s (length table) →
       (r ≡ length (refusedLine number place)) × ((last ≡ sets page 0 (refusedLine number place)) × (r ≤ 53)) → Printed r last
   unfolding answer output
   prints-refusal {number} {place} is said (e, (f, under)) =
-      let out = lines-refused (outcome s) number place (rw enough at (sym (ap saidOf is) ∙ said)) in
+      let out = lines-refused (outcome s) number place (rw has-room at (sym (ap saidOf is) ∙ said)) in
       rw out (page-after page (refusedLine number place) (e ∙ sym (zero-add _), f) (omega arith))

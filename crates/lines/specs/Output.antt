@@ -29,7 +29,8 @@ decimal n = leading n (n / 10) ++ digit (n % 10)
 abbrev pub line : List ℕ → List ℕ
 line words = words ++ letters "\n"
 
-abbrev pub named : List ℕ → ℕ → List ℕ  -- a number after its words
+-- a number after its words, as in "bound 12"
+abbrev pub named : List ℕ → ℕ → List ℕ
 named words n = words ++ decimal n
 
 -- "A routine line gives its number and bound"
@@ -48,11 +49,12 @@ boundLine bound = line (named (letters "bound ") bound)
 abbrev pub refusedLine : ℕ → ℕ → List ℕ
 refusedLine number place = line (named (letters "refused ") number ++ named (letters " at ") place)
 
+-- "Output, whole": the routine lines, then the bound's; a refusal prints "only" its line
 abbrev pub linesOf : Verdict Sheet → List ℕ
 linesOf (accepted s) = routineLines 1 (boundsOf s) ++ boundLine (taskBound s)
 linesOf (refused number place) = refusedLine number place
 
--- "Output, whole"
+-- "The program `maxt` reads a sheet"
 unfoldable pub output : List ℕ → List ℕ
 output s = linesOf (outcome s)
 

@@ -109,7 +109,7 @@ fn no_bounds() -> [u64; 64]
 }
 
 // What `maxt` prints for a sheet, at the start of the page, and its length. The page has room for the longest: 64 routine lines of at
-// most 50 bytes, and the bound's.
+// most 50 bytes, and the bound's. The last clause follows from the others, and is said for those who write the page's first part.
 pub fn print(sheet: &[u8], page: &mut [u8; 4096]) -> usize
     ensures { λ r. ⌜ r ≡ length (output (now (sheet .entry))) ⌝ }
     ensures { λ _. ⌜ now (page .exit) ≡ onto (output (now (sheet .entry))) (now (page .entry)) ⌝ }

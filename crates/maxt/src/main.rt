@@ -2,5 +2,5 @@
 use libc::STDIN_FILENO;
 
 fn main() {
-    console::answer(STDIN_FILENO, b"maxt: standard input");
+    console::answer(STDIN_FILENO, b"standard input");
 }

@@ -28,13 +28,15 @@ returns-2 : tie.Need-returns-2
 returns-2 c =
     let test = c .before .before .before .before .before in
     let read = test .before .before in
-    accepts _ (read .before .if1 .left) {report = read .read .result} (rw (read .read .ensures) (read-law _ 0)) (sym (test .before .is-accepted .ensures) ∙ test .if2 .taken)
+    accepts _ (read .before .if1 .left) {report = read .read .result} (rw (read .read .ensures) (read-law _ 0))
+    (sym (test .before .is-accepted .ensures) ∙ test .if2 .taken)
     (rw (read .read .ensures) (few-read _ 0 .few)) (c .before .before .copy-out .ensures)
 
 returns-3 : tie.Need-returns-3
 returns-3 c =
     let read = c .before .before in
-    refuses _ (read .before .if1 .left) {report = read .read .result} (rw (read .read .ensures) (read-law _ 0)) (sym (c .before .is-accepted .ensures) ∙ c .if2 .left)
+    refuses _ (read .before .if1 .left) {report = read .read .result} (rw (read .read .ensures) (read-law _ 0))
+    (sym (c .before .is-accepted .ensures) ∙ c .if2 .left)
 
 pub fill-spec : {M : Type 1} → statement M
 fill-spec =

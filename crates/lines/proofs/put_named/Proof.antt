@@ -23,7 +23,8 @@ slice-aggregate-put c = search needs
 put-requires-2 : tie.Need-put-requires-2
 put-requires-2 c κs =
     let written = c .before .before .before .before .before .before .decimal in
-    let few = few-digits _ _ (c .before .before .before .before .before .before .before .before .before .before .fits .number .fits) (written .ensures .1 .0) in
+    let start = c .before .before .before .before .before .before .before .before .before .before in
+    let few = few-digits _ _ (start .fits .number .fits) (written .ensures .1 .0) in
     omega (arith, written .ensures .0 .1, c .before .before .before .before .put .kept .0)
 
 same-length : tie.Need-same-length
@@ -35,7 +36,8 @@ returns c =
     let args = start .args in
     let written = c .before .before .before .before .before .before .before .before .before .decimal in
     let digits-put = rw (written .ensures .1 .1 ∙ decimal-is _ (args .number) (written .ensures .1 .0)) at (c .before .before .put2 .ensures) in
-    let both = then (args .page .now) (args .at) (args .words .now) (decimal (args .number)) (c .before .before .before .before .before .before .before .put .ensures) digits-put in
+    let words-put = c .before .before .before .before .before .before .before .put .ensures in
+    let both = then (args .page .now) (args .at) (args .words .now) (decimal (args .number)) words-put digits-put in
     let few = few-digits _ _ (start .fits .number .fits) (written .ensures .1 .0) in
     (both .0, (both .1, omega (arith, written .ensures .0 .1, c .before .before .put2 .ensures .0)))
 

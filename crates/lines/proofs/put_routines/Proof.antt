@@ -44,8 +44,12 @@ loop-again c =
     let put = c .before .before .put-routine in
     let table = args .table .now in
     let numbered : 1 + loop .i ≡ loop .i + 1 = omega arith in
-    let both = then (args .page .now) 0 (routineLines 1 (take (loop .i) table)) (routineLine (loop .i + 1) (getD table (loop .i) 0)) (loop .inv .0) (put .ensures .0, put .ensures .1 .0) in
-    (rw (lines-more 1 table (loop .i) (omega arith), numbered) both, (omega (arith, put .ensures .1 .1), (omega arith, put .kept .0 ∙ loop .inv .1 .1 .1)))
+    let so-far = routineLines 1 (take (loop .i) table) in
+    let next = routineLine (loop .i + 1) (getD table (loop .i) 0) in
+    let both = then (args .page .now) 0 so-far next (loop .inv .0) (put .ensures .0, put .ensures .1 .0) in (
+      rw (lines-more 1 table (loop .i) (omega arith), numbered) both,
+      (omega (arith, put .ensures .1 .1), (omega arith, put .kept .0 ∙ loop .inv .1 .1 .1)),
+    )
 
 same-length : tie.Need-same-length Inv-loop μ-loop
 same-length c = c .before .loop .inv .1 .1 .1
