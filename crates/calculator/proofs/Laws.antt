@@ -32,12 +32,12 @@ stored-more v t i h k =
     rw (drop-cons t i 0, set-at (take i v) (getD t i 0) (drop (suc i) t) (getD v i 0) i l, add-one i, take-suc v i 0, append-assoc)
 
 -- what `fill` promises: what is said, of how many routines, and the table after
-abbrev Meets : List ℕ → List ℕ → Verdict ℕ → ℕ → List ℕ → Type 0
-Meets s table said routines after =
+abbrev Fills : List ℕ → List ℕ → Verdict ℕ → ℕ → List ℕ → Type 0
+Fills s table said routines after =
     (said ≡ answer s (length table)) × ((routines ≡ filled s (length table)) × ((after ≡ tableAfter s table) × (routines ≤ 64)))
 
 -- NO ROOM
-pub no-room : (s table : List ℕ) → length table < 64 → Meets s table (refused 1 0) 0 table
+pub no-room : (s table : List ℕ) → length table < 64 → Fills s table (refused 1 0) 0 table
 unfolding answer filled tableAfter
 no-room s table h = rw (lt-ltb (length table) 64 h) (refl, (refl, (refl, omega arith)))
 
@@ -79,14 +79,14 @@ one-each (accepted t) b bound table e few same =
     )
 
 module _ {s : List ℕ} (table : List ℕ) (room : 64 ≤ length table) {report : Report} (reported : Reported s 0 report) where
-  pub refuses : isAccepted (report .answer) ≡ false → Meets s table (saidOf (report .answer)) 0 table
+  pub refuses : isAccepted (report .answer) ≡ false → Fills s table (saidOf (report .answer)) 0 table
   unfolding answer filled tableAfter
   refuses e =
       let none = refused-by (report .answer) e s table (reported .said) in
       rw (le-ltb (length table) 64 room) (reported .said, (none .0, (none .1, omega arith)))
 
   pub accepts : {after : List ℕ} → isAccepted (report .answer) ≡ true → report .bounds .count ≤ 64 →
-      after ≡ storedOf (report .bounds) table → Meets s table (saidOf (report .answer)) (report .bounds .count) after
+      after ≡ storedOf (report .bounds) table → Fills s table (saidOf (report .answer)) (report .bounds .count) after
   unfolding answer filled tableAfter
   accepts e few f =
       let is = accepted-with (report .answer) e in

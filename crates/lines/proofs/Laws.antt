@@ -9,6 +9,10 @@ use native.Mathlib.Nat.{add-zero, le-of-lt}
 use native.Mathlib.Numerals.{add-one}
 use Rattle.lines.specs.Output.{routineLine, routineLines}
 
+-- one more taken of a list
+pub next-taken : (l : List ℕ) (i : ℕ) → i < length l → (take (i + 1) l ≡ take i l ++ (getD l i 0 ∷ [])) × (length (take i l) ≡ i)
+next-taken l i h = (rw (add-one i) (take-suc l i 0 h), length-take-le i l (le-of-lt h))
+
 -- two texts are put as one
 pub put-both : (page a b : List ℕ) (at : ℕ) → sets (sets page at a) (at + length a) b ≡ sets page at (a ++ b)
 put-both page [] b at = rw (add-zero at)
@@ -30,9 +34,8 @@ then page at a b (e, f) (g, h) =
 pub put-more : (page bytes : List ℕ) (at i : ℕ) → i < length bytes →
     set (sets page at (take i bytes)) (at + i) (getD bytes i 0) ≡ sets page at (take (i + 1) bytes)
 put-more page bytes at i h =
-    let e : length (take i bytes) ≡ i = length-take-le i bytes (le-of-lt h) in
-    let b = put-both page (take i bytes) (getD bytes i 0 ∷ []) at in
-    rw (add-one i, take-suc bytes i 0 h) (rw e at b)
+    let (more, long) = next-taken bytes i h in
+    rw more (rw long at (put-both page (take i bytes) (getD bytes i 0 ∷ []) at))
 
 -- one routine line more
 lines-snoc : (number : ℕ) (bounds : List ℕ) (b : ℕ) →
@@ -49,5 +52,5 @@ lines-snoc number (x ∷ bounds) b =
 pub lines-more : (number : ℕ) (table : List ℕ) (i : ℕ) → i < length table →
     routineLines number (take (i + 1) table) ≡ routineLines number (take i table) ++ routineLine (number + i) (getD table i 0)
 lines-more number table i h =
-    let e : length (take i table) ≡ i = length-take-le i table (le-of-lt h) in
-    rw (add-one i, take-suc table i 0 h) (rw e at (lines-snoc number (take i table) (getD table i 0)))
+    let (more, long) = next-taken table i h in
+    rw more (rw long at (lines-snoc number (take i table) (getD table i 0)))

@@ -8,7 +8,7 @@ use Rattle.meaning.specs.Tree.{Sheet}
 use Rattle.meaning.specs.Value.{boundsOf, taskBound}
 use Rattle.meaning.specs.Answer.{Verdict, accepted, refused, outcome}
 
--- a text in bytes
+-- a text in bytes: the codes of its characters, which are all ASCII here
 abbrev pub letters : String → List ℕ
 letters nothing = []
 letters (c before s) = code c ∷ letters s
