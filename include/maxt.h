@@ -1,0 +1,63 @@
+/* The proved timing calculator for C: the entries of target/staticlib/libboundary.a (`rt staticlib boundary`), x86-64.
+ *
+ * Each entry does what its contract in crates/boundary/src/lib.rt says, for every content of its arguments. What no proof can ask of a
+ * program in C, and what that program owes therefore:
+ *   - each pointer is followed by its number of elements and leads to that many, readable, and writable where it is not const;
+ *     it is not null and is aligned for its type, even where the number is 0;
+ *   - no two arguments of a call overlap, and no other thread writes to them during the call.
+ */
+#ifndef MAXT_H
+#define MAXT_H
+
+#include <stddef.h>
+#include <stdint.h>
+
+#ifdef __cplusplus
+extern "C" {
+#endif
+
+/* The first number of an answer: accepted, or why the sheet is refused (document 01; docs/REFUSALS.md says when each is given). */
+enum {
+    MAXT_ACCEPTED = 0,
+    MAXT_NO_ROOM = 1,
+    MAXT_TOO_LONG = 2,
+    MAXT_CUT = 3,
+    MAXT_BAD_KIND = 4,
+    MAXT_BAD_LENGTH = 5,
+    MAXT_BAD_FIELD = 6,
+    MAXT_BAD_CALL = 7,
+    MAXT_TOO_DEEP = 8,
+    MAXT_STRAY_MARKER = 9,
+    MAXT_NO_PLAIN_BRANCH = 10,
+    MAXT_EXTRA = 11,
+    MAXT_TOO_BIG = 12
+};
+
+/* A table with fewer places is refused with MAXT_NO_ROOM; no sheet has more routines. */
+#define MAXT_ROUTINES 64
+
+/* Answers a sheet.
+ *
+ * answer[0]: MAXT_ACCEPTED, or the number of the refusal.
+ * answer[1]: of a refusal its place, an offset into the sheet; 0 on acceptance.
+ * answer[2]: on acceptance the bound of the last routine, in cycles; 0 of a refusal.
+ * table: on acceptance the first places, one per routine in order, hold the bounds, and every later place is unchanged; a refusal leaves the
+ *        whole table unchanged. How many routines there are stands in the sheet record, at offset 8.
+ * The sheet is unchanged.
+ */
+void maxt_answer(const uint8_t *sheet, size_t sheet_length, uint64_t *table, size_t table_length, uint64_t answer[3]);
+
+/* Where the records of a routine are, from its routine record to the last record of its body.
+ *
+ * number: the routine, from 1.
+ * part[0], part[1]: where they start and where they end, as offsets into the sheet; both are sheet_length where the number is outside 1 to the
+ *                   number of routines, or the sheet is refused.
+ * The sheet is unchanged.
+ */
+void maxt_routine(const uint8_t *sheet, size_t sheet_length, uint64_t number, uint64_t part[2]);
+
+#ifdef __cplusplus
+}
+#endif
+
+#endif
