@@ -1,0 +1,156 @@
+//! The bound of a timing sheet, worked out by the proved archive `libboundary.a`.
+//!
+//! Document 01 says what a sheet is, what its bound is and when it is refused. This crate adds no rule of its own:
+//! it hands slices to the archive and gives its answers a type.
+
+use core::ops::Range;
+
+/// Places that a lent table needs at least; with fewer the answer is [`Refusal::NoRoom`].
+pub const TABLE_PLACES: usize = 64;
+
+/// Document 01's refusals, with its numbers.
+#[derive(Clone, Copy, Debug, PartialEq, Eq, Hash)]
+#[repr(u8)]
+pub enum Refusal {
+    NoRoom = 1,
+    TooLong = 2,
+    Cut = 3,
+    BadKind = 4,
+    BadLength = 5,
+    BadField = 6,
+    BadCall = 7,
+    TooDeep = 8,
+    StrayMarker = 9,
+    NoPlainBranch = 10,
+    Extra = 11,
+    TooBig = 12,
+}
+
+impl Refusal {
+    /// In the order of their numbers.
+    pub const ALL: [Refusal; 12] = [
+        Refusal::NoRoom,
+        Refusal::TooLong,
+        Refusal::Cut,
+        Refusal::BadKind,
+        Refusal::BadLength,
+        Refusal::BadField,
+        Refusal::BadCall,
+        Refusal::TooDeep,
+        Refusal::StrayMarker,
+        Refusal::NoPlainBranch,
+        Refusal::Extra,
+        Refusal::TooBig,
+    ];
+
+    /// The number that document 01 gives it, 1 to 12.
+    pub fn number(self) -> u8 {
+        self as u8
+    }
+
+    /// The name as document 01 writes it.
+    pub fn name(self) -> &'static str {
+        match self {
+            Refusal::NoRoom => "NO ROOM",
+            Refusal::TooLong => "TOO LONG",
+            Refusal::Cut => "CUT",
+            Refusal::BadKind => "BAD KIND",
+            Refusal::BadLength => "BAD LENGTH",
+            Refusal::BadField => "BAD FIELD",
+            Refusal::BadCall => "BAD CALL",
+            Refusal::TooDeep => "TOO DEEP",
+            Refusal::StrayMarker => "STRAY MARKER",
+            Refusal::NoPlainBranch => "NO PLAIN BRANCH",
+            Refusal::Extra => "EXTRA",
+            Refusal::TooBig => "TOO BIG",
+        }
+    }
+
+    fn of_number(number: u64) -> Option<Refusal> {
+        Refusal::ALL.into_iter().find(|refusal| u64::from(refusal.number()) == number)
+    }
+}
+
+impl core::fmt::Display for Refusal {
+    fn fmt(&self, formatter: &mut core::fmt::Formatter<'_>) -> core::fmt::Result {
+        formatter.write_str(self.name())
+    }
+}
+
+/// What comes back for a sheet.
+#[derive(Clone, Copy, Debug, PartialEq, Eq)]
+pub enum Answer {
+    /// The bound of the last routine, the task.
+    Accepted { bound: u64 },
+    /// The place is an offset in the sheet.
+    Refused { refusal: Refusal, place: usize },
+}
+
+mod archive {
+    extern "C" {
+        pub fn maxt_answer(sheet: *const u8, sheet_length: usize, table: *mut u64, table_length: usize, answer: *mut [u64; 3]);
+        pub fn maxt_routine(sheet: *const u8, sheet_length: usize, number: u64, part: *mut [u64; 2]);
+    }
+}
+
+impl Answer {
+    /// The archive's number, place and bound with a type.
+    ///
+    /// # Panics
+    ///
+    /// If document 01 does not have the number; the archive's contract rules that out.
+    pub fn of_numbers([number, place, bound]: [u64; 3]) -> Answer {
+        if number == 0 {
+            return Answer::Accepted { bound };
+        }
+        match Refusal::of_number(number) {
+            Some(refusal) => Answer::Refused { refusal, place: offset(place) },
+            None => panic!("the archive answered with number {number}, which is no refusal of document 01"),
+        }
+    }
+}
+
+/// Judges the sheet and works out its bounds.
+///
+/// On acceptance the table's first places, one per routine in order, hold the bounds and every later place is as it
+/// was. On a refusal the whole table is as it was. A table of fewer than [`TABLE_PLACES`] places is refused.
+pub fn answer(sheet: &[u8], table: &mut [u64]) -> Answer {
+    Answer::of_numbers(numbers(sheet, table))
+}
+
+/// [`answer`] as the archive gives it: number (0 is acceptance), place and bound.
+pub fn numbers(sheet: &[u8], table: &mut [u64]) -> [u64; 3] {
+    let mut answer = [0; 3];
+    // SAFETY: both pointers come from slices with the lengths that are passed with them, and `answer` from an array of
+    // three; all are aligned and live until the call returns, the two written ones are borrowed mutably, and the archive
+    // keeps none of them.
+    unsafe {
+        archive::maxt_answer(sheet.as_ptr(), sheet.len(), table.as_mut_ptr(), table.len(), &mut answer);
+    }
+    answer
+}
+
+/// Where the records of a routine lie in an accepted sheet: from its routine record to the end of its body.
+///
+/// Routines are numbered from 1. For any other number, and for a sheet that is refused, it is the empty range at the
+/// sheet's end.
+pub fn routine(sheet: &[u8], number: u64) -> Range<usize> {
+    let mut part = [0u64; 2];
+    // SAFETY: the pointer comes from a slice with the length that is passed with it, `part` from an array of two; both
+    // are aligned and live until the call returns, `part` is borrowed mutably, and the archive keeps none of them.
+    unsafe {
+        archive::maxt_routine(sheet.as_ptr(), sheet.len(), number, &mut part);
+    }
+    let [start, end] = part;
+    offset(start)..offset(end)
+}
+
+/// The records at [`routine`]'s range; nothing is copied.
+pub fn routine_records(sheet: &[u8], number: u64) -> &[u8] {
+    &sheet[routine(sheet, number)]
+}
+
+/// The archive is for 64-bit machines, where every offset of a slice is a `usize`.
+fn offset(place: u64) -> usize {
+    usize::try_from(place).expect("the archive gave a place that no slice has")
+}

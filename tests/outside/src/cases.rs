@@ -1,0 +1,110 @@
+//! Document 01's own figures, cases a to n, for the calculator alone.
+
+use crate::calculator::Calculation;
+use crate::refusals::{Refused, CUT, TOO_BIG, TOO_LONG};
+use crate::writer::Writer;
+
+fn outcome(organisation: u32, body: impl FnOnce(&mut Writer)) -> Result<Vec<u64>, Refused> {
+    let mut writer = Writer::sheet();
+    writer.routine(organisation);
+    body(&mut writer);
+    Calculation::of(&writer.finish(1).bytes, None).outcome().map(<[u64]>::to_vec)
+}
+
+fn bound(organisation: u32, body: impl FnOnce(&mut Writer)) -> u64 {
+    outcome(organisation, body).expect("an accepted sheet")[0]
+}
+
+fn primitives(writer: &mut Writer, costs: &[u32]) {
+    costs.iter().for_each(|&cost| writer.primitive(cost));
+}
+
+#[test]
+fn cases_a_to_g() {
+    assert_eq!(bound(0, |w| w.sequence(0)), 0);
+    assert_eq!(bound(5, |w| w.primitive(7)), 12);
+    let alternative = |w: &mut Writer| {
+        w.alternative(2);
+        primitives(w, &[2, 9]);
+        w.sequence(0);
+    };
+    assert_eq!(bound(0, alternative), 11);
+    for (count, value) in [(3, 28), (0, 7)] {
+        let head_loop = |w: &mut Writer| {
+            w.head_loop(count, false);
+            primitives(w, &[1, 2, 5, 4]);
+        };
+        assert_eq!(bound(0, head_loop), value);
+    }
+    let tail_loop = |w: &mut Writer| {
+        w.tail_loop(3, false);
+        primitives(w, &[5, 2, 4]);
+    };
+    assert_eq!(bound(0, tail_loop), 25);
+    let timed_loop = |w: &mut Writer| {
+        w.timed_loop(100);
+        w.primitive(6);
+    };
+    assert_eq!(bound(0, timed_loop), 106);
+}
+
+#[test]
+fn cases_h_to_k() {
+    for (limit, cost, value) in [(4, 20, 167), (40, 20, 263), (0, 20, 103), (4, 2, 103)] {
+        let scope = |w: &mut Writer| {
+            w.head_loop(10, true);
+            primitives(w, &[1, 2]);
+            w.alternative(2);
+            w.primitive(3);
+            w.sequence(2);
+            w.marker(limit, 1);
+            primitives(w, &[cost, 5, 0]);
+        };
+        assert_eq!(bound(0, scope), value);
+    }
+}
+
+#[test]
+fn case_l() {
+    let two_markers = |w: &mut Writer| {
+        w.head_loop(10, true);
+        primitives(w, &[0, 0]);
+        w.alternative(3);
+        w.primitive(0);
+        for cost in [7, 6] {
+            w.sequence(2);
+            w.marker(10, 0);
+            w.primitive(cost);
+        }
+        w.sequence(0);
+        w.sequence(0);
+    };
+    assert_eq!(bound(0, two_markers), 130);
+}
+
+#[test]
+fn cases_m_and_n() {
+    let near_limit = |cost| {
+        move |w: &mut Writer| {
+            w.sequence(2);
+            w.tail_loop(256, false);
+            primitives(w, &[u32::MAX, 0]);
+            w.sequence(0);
+            w.primitive(cost);
+        }
+    };
+    assert_eq!(bound(0, near_limit(255)), 1_099_511_627_775);
+    assert_eq!(outcome(0, near_limit(256)), Err(Refused { number: TOO_BIG, place: 20 }));
+}
+
+#[test]
+fn refusals_that_01_prints() {
+    let refused = |sheet: &[u8]| Calculation::of(sheet, None).outcome().err();
+    let mut case_b = Writer::sheet();
+    case_b.routine(5);
+    case_b.primitive(7);
+    let case_b = case_b.finish(1).bytes;
+    assert_eq!(refused(&case_b[..20]), Some(Refused { number: CUT, place: 20 }));
+    assert_eq!(refused(&[]), Some(Refused { number: CUT, place: 0 }));
+    assert_eq!(refused(&[0; 60_001]), Some(Refused { number: TOO_LONG, place: 0 }));
+}
