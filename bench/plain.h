@@ -1,0 +1,11 @@
+/* The calculator of document 01 in plain C: what the proved one is measured against. */
+#ifndef PLAIN_H
+#define PLAIN_H
+
+#include <stddef.h>
+#include <stdint.h>
+
+/* Same promise as the archive's maxt_answer: answer is number, place, bound. */
+void plain_answer(const uint8_t *sheet, size_t sheet_length, uint64_t *table, size_t table_length, uint64_t answer[3]);
+
+#endif
