@@ -12,10 +12,7 @@ use Rattle.meaning.specs.Value.{Known, value, total, times, charges}
 use Rattle.meaning.specs.Judgement.{Reading, refused, found}
 use Rattle.meaning.specs.Answer.{valueLimit, ended, tooBig}
 use Rattle.records.specs.declared.Cursor.{Cursor}
-use Rattle.reader.specs.declared.Parsed.{Parsed}
-use Rattle.reader.specs.declared.Parsed.the-variants.{Plain, Done, Refused}
-use Rattle.reader.specs.declared.Share.{Share}
-use Rattle.reader.specs.Tallies.{valueCap}
+use Rattle.reader.specs.Tallies.{Done, Refused, Parsed, Share, valueCap}
 
 -- how a construct stands, by number, for its reach and for whether it is, or leads, a last branch whose fellows are all marked
 abbrev pub standingOf : Reach → Bool → ℕ
@@ -46,7 +43,6 @@ pub record Agrees (known : Known) (product at : ℕ) (c : Construct) (past v o e
 
 pub data Same (known : Known) (product at : ℕ) : Parsed → Reading Construct → Type 0 where
   both-refused : {number place : ℕ} → Same known product at (Refused number place) (refused number place)
-  read-plain : {c : Construct} {past v : ℕ} {next : Cursor} → Agrees known product at c past v 0 0 0 next → Same known product at (Plain v next) (found c past)
   read-done : {c : Construct} {past : ℕ} {p : Share} → Agrees known product at c past (p .value) (p .over) (p .added) (p .mark) (p .next) →
       Same known product at (Done p) (found c past)
 

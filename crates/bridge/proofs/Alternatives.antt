@@ -17,9 +17,7 @@ use Rattle.meaning.specs.Judgement.{found, andThen, ConstructReader, isMarked, 
 use Rattle.meaning.specs.Answer.{ended, endedIn, tooBig}
 use Rattle.demands.proofs.Good.{Good}
 use Rattle.records.specs.declared.Cursor.{Cursor}
-use Rattle.reader.specs.declared.Parsed.{Parsed}
-use Rattle.reader.specs.declared.Tally.{Tally}
-use Rattle.reader.specs.Tallies.{valueCap, chargesOf, counted, noTally, withOf, keptOf, closeOf}
+use Rattle.reader.specs.Tallies.{Parsed, Tally, valueCap, chargesOf, counted, noTally, withOf, keptOf, closeOf}
 use Rattle.reader.specs.Ways.{waysOf}
 use Rattle.reader.specs.Reader.{ChildReader, Owner, ownerOf, listOf}
 use Rattle.bridge.proofs.Agree.{standingOf, occurs, Agrees, Same}

@@ -15,8 +15,7 @@ use Rattle.meaning.specs.Judgement.{isMarked}
 use Rattle.meaning.specs.Answer.{ended, endedIn, tooBig}
 use Rattle.demands.proofs.Good.{Unmarked}
 use Rattle.records.specs.declared.Cursor.{Cursor}
-use Rattle.reader.specs.declared.Tally.{Tally}
-use Rattle.reader.specs.Tallies.{valueCap, counted, isBranch, withOf, keptOf}
+use Rattle.reader.specs.Tallies.{Tally, valueCap, counted, isBranch, withOf, keptOf}
 use Rattle.bridge.proofs.Agree.{Over, markNumber, either, Agrees}
 use Rattle.bridge.proofs.Standings.{same-both}
 use Rattle.bridge.proofs.Ends.{also, big-append, also-none, also-assoc, also-right, over-also}

@@ -7,6 +7,7 @@ use mathlib.Core.Option.{none}
 use lib.Dec.{leb, eqb}
 use borrow.Author.Tests.{le-ltb, leb-false, eqb-false}
 use native.Mathlib.Omega.{arith}
+use native.Mathlib.Numerals.{add-one}
 use Rattle.meaning.specs.Tree.{Construct, primitive, call, marker, itself, mark}
 use Rattle.meaning.specs.Format.{rangesOf, Record, field}
 use Rattle.meaning.specs.Legal.{Reach}
@@ -19,10 +20,11 @@ use Rattle.demands.proofs.Good.{good}
 use Rattle.demands.proofs.Records.{Judged, judged-good, Sort, sort}
 use Rattle.demands.proofs.Records.{a-primitive, a-sequence, an-alternative, a-head-loop, a-tail-loop, a-timed-loop, a-call, a-marker}
 use Rattle.records.specs.declared.Read.{Read}
-use Rattle.records.specs.Records.{childrenOf, headOf}
-use Rattle.reader.specs.declared.Parsed.the-variants.{Refused}
-use Rattle.reader.specs.Reader.{onHead, ChildReader, aloneOf, ownedOf, constructOf}
-use Rattle.bridge.proofs.Agree.{standingOf, occurs, markNumber, either, Agrees, Same, both-refused, read-plain, read-done, Finds, Small}
+use Rattle.records.specs.declared.Head.the-variants as head
+use Rattle.records.specs.Records.{childrenOf, headOf, foundOf}
+use Rattle.reader.specs.Tallies.{Refused}
+use Rattle.reader.specs.Reader.{ChildReader, ownedOf, constructOf}
+use Rattle.bridge.proofs.Agree.{standingOf, occurs, markNumber, either, Agrees, Same, both-refused, read-done, Finds, Small}
 use Rattle.bridge.proofs.Standings.{judged-alike}
 use Rattle.bridge.proofs.Marks.{first-most}
 use Rattle.bridge.proofs.Readers.{Alike, Sure, past-record}
@@ -46,15 +48,15 @@ module _ (known : Known) (s bounds : List ℕ) (before own : ℕ) (number : own 
   module _ (depth left : ℕ) (read : ChildReader) (g : ConstructReader) (alike : Alike known read g) (sure : Sure s before own number (suc depth) g)
       (r : Reach) (lies : occurs r ≡ true) (last : Bool) (product held at : ℕ) (cap : held ≡ min 1000000 product) (place : 1 ≤ at) where
     owned-law : {x : Record} {next : ℕ} → Sort x → Judged s (construct own left r last) at x next →
-        Same known product at (ownedOf read bounds at (standingOf r last) held (readOf x next)) (owned g r last x next)
-    unfolding ownedOf aloneOf childrenOf rangesOf ended value
+        Same known product at (ownedOf read bounds at (standingOf r last) held (foundOf (head.Good (readOf x next)))) (owned g r last x next)
+    unfolding ownedOf rangesOf ended value
     owned-law {next = next} (a-primitive cost) j =
         let few = first-most _ _ cost _ (j .range) .0 in
-        read-plain (leaf known product at next cost 0 (primitive (record { cost = cost })) refl (omega arith) refl refl refl)
+        read-done (leaf known product at next cost 0 (primitive (record { cost = cost })) refl (omega arith) refl refl refl)
     owned-law (a-sequence n) j =
         rw (past-record j) (sequence-law known s before own number (suc depth) read g alike sure n product held at cap place r lies last)
     owned-law (an-alternative n h) j =
-        rw (past-record j) (alternative-law known s before own number (suc depth) read g alike sure n product held at cap place r lies last)
+        rw (past-record j, add-one n) (alternative-law known s before own number (suc depth) read g alike sure n product held at cap place r lies last)
     owned-law (a-head-loop count scope h) j =
         let few = first-most _ _ count _ (j .range) .0 in
         rw (past-record j) (head-loop-law known s before own number (suc depth) read g alike sure count scope product held at cap place r lies last few)
@@ -67,7 +69,7 @@ module _ (known : Known) (s bounds : List ℕ) (before own : ℕ) (number : own 
         let (x, y) = pick-false (eqb k 0) (leb own k) (j .place .0) in
         let low = eqb-false k 0 x in
         let high = leb-false own k y in
-        read-plain (leaf known product at next _ 0 (call (record { routine = k })) (finds k (omega arith) (omega arith)) (small (k - 1)) refl refl refl)
+        read-done (leaf known product at next _ 0 (call (record { routine = k })) (finds k (omega arith) (omega arith)) (small (k - 1)) refl refl refl)
     owned-law {next = next} (a-marker limit cost) j =
         let rest = first-most _ _ limit _ (j .range) .1 in
         let few = first-most _ _ cost _ rest .0 in
@@ -75,20 +77,22 @@ module _ (known : Known) (s bounds : List ℕ) (before own : ℕ) (number : own 
 
     -- what is judged good is owned; at depth 25 nothing is
     record-law : {j : Reading Record} → Found (Judged s (construct own left r last) at) j →
-        Same known product at (onHead (headOf j) Refused (ownedOf read bounds at (standingOf r last) held)) (andThen j (owned g r last))
+        Same known product at (ownedOf read bounds at (standingOf r last) held (foundOf (headOf j))) (andThen j (owned g r last))
+    unfolding ownedOf
     record-law (not-read n) = both-refused
     record-law (was-read {a = x} j) = owned-law (sort x (j .kind) (j .range)) j
 
-  too-deep : (r : Reach) (last : Bool) (product at : ℕ) {j : Reading Record} → Found (Judged s (construct own 0 r last) at) j →
-      Same known product at (onHead (headOf j) Refused (λ _. Refused 8 at)) (andThen j (λ x. refused 8))
-  too-deep r last product at (not-read n) = both-refused
-  too-deep r last product at (was-read j) = absurd (false≢true (sym (j .place .1)))
+  too-deep : (r : Reach) (last : Bool) (product held at : ℕ) {j : Reading Record} → Found (Judged s (construct own 0 r last) at) j →
+      Same known product at (ownedOf (λ _ _ d. Refused 8 (d .at)) bounds at (standingOf r last) held (foundOf (headOf j))) (andThen j (λ x. refused 8))
+  unfolding ownedOf
+  too-deep r last product held at (not-read n) = both-refused
+  too-deep r last product held at (was-read j) = absurd (false≢true (sym (j .place .1)))
 
   -- a construct is read by the code as by the judgement, at any reach and place
   pub construct-law : (depth left : ℕ) → depth + left ≡ 25 → Alike known (constructOf left s bounds own) (constructAt left s own)
   unfolding constructOf constructAt
   construct-law depth zero e r last product standing held at c lies way cap q place =
-      rw (way, q, judged-alike s own 0 at r lies last) (too-deep r last product at (judged-good s (construct own 0 r last) at))
+      rw (way, q, judged-alike s own 0 at r lies last) (too-deep r last product held at (judged-good s (construct own 0 r last) at))
   construct-law depth (suc left) e r last product standing held at c lies way cap q place =
       let alike = construct-law (suc depth) left (omega arith) in
       let sure = good s before own number (suc depth) left (omega arith) in

@@ -14,9 +14,9 @@ use Rattle.meaning.specs.Judgement.{found}
 use Rattle.meaning.specs.Answer.{valueLimit, Ended, ended, ends, tooBig}
 use Rattle.meaning.proofs.Laws.{pick-true}
 use Rattle.records.specs.declared.Cursor.{Cursor}
-use Rattle.reader.specs.declared.Parsed.the-variants.{Plain, Done}
-use Rattle.reader.specs.Tallies.{valueCap, share, endedOf}
-use Rattle.bridge.proofs.Agree.{Over, markNumber, either, Agrees, Same, read-plain, read-done}
+use Rattle.reader.specs.Tallies.{Done, valueCap, share, endedOf, valueTold}
+use Rattle.reader.proofs.Tells.{told-small}
+use Rattle.bridge.proofs.Agree.{Over, markNumber, either, Agrees, Same, read-done}
 
 -- the first of two places
 abbrev pub also : Option ℕ → Option ℕ → Option ℕ
@@ -75,38 +75,30 @@ pub record Closes (known : Known) (product at : ℕ) (c : Construct) (inner : Op
 
 module _ (known : Known) (product at : ℕ) (c : Construct) (v over e m past : ℕ) (next : Cursor) (place : 1 ≤ at) (reached : next .at ≡ past) where
   -- where some record is too big, nothing more is told than its place
-  big : (n o : ℕ) → (n ≡ o) × (1 ≤ o) → m ≡ markNumber (either (itself c) (mark c)) → tooBig (ended known at c) ≡ some o → Agrees known product at c past 0 n e m next
-  big n o h marked q = record { reached = reached; over = rw q h; amount = λ z. none-some z; small = omega arith; added = λ z. none-some z; marked = marked }
+  big : (x n o : ℕ) → x ≤ valueLimit → (n ≡ o) × (1 ≤ o) → m ≡ markNumber (either (itself c) (mark c)) → tooBig (ended known at c) ≡ some o →
+      Agrees known product at c past x n e m next
+  big x n o low h marked q = record { reached = reached; over = rw q h; amount = λ z. none-some z; small = low; added = λ z. none-some z; marked = marked }
     where
       none-some : {a b : ℕ} → tooBig (ended known at c) ≡ none → a ≡ b
       none-some z = let clash : _≡_ {A = ℕ} 0 1 = cc in absurd (omega arith)
 
-  -- where none is, its value is told, and its added and mark unless both are 0
-  module _ (amount : v ≡ value known c) (low : v ≤ valueLimit) (q : tooBig (ended known at c) ≡ none) where
-    small : (e' m' : ℕ) → e' ≡ min valueCap (total (times product (charges known c))) → m' ≡ markNumber (either (itself c) (mark c)) →
-        Agrees known product at c past v 0 e' m' next
-    small e' m' added marked = record { reached = reached; over = rw q; amount = λ z. amount; small = low; added = λ z. added; marked = marked }
-
-    shortened : e ≡ min valueCap (total (times product (charges known c))) → m ≡ markNumber (either (itself c) (mark c)) →
-        (t : Bool) → pick (eqb e 0) (eqb m 0) false ≡ t → Same known product at (pick t (Plain v next) (Done (share v 0 e m next))) (found c past)
-    shortened added marked true u =
-        let (x, y) = pick-true (eqb e 0) (eqb m 0) u in
-        read-plain (small 0 0 (sym (eqb-true e 0 x) ∙ added) (sym (eqb-true m 0 y) ∙ marked))
-    shortened added marked false u = read-done (small e m added marked)
+  -- where none is, its value is told
+  small : v ≡ value known c → v ≤ valueLimit → tooBig (ended known at c) ≡ none → e ≡ min valueCap (total (times product (charges known c))) →
+      m ≡ markNumber (either (itself c) (mark c)) → Agrees known product at c past v 0 e m next
+  small amount low q added marked = record { reached = reached; over = rw q; amount = λ z. amount; small = low; added = λ z. added; marked = marked }
 
   pub ended-law : (inner : Option ℕ) → Closes known product at c inner v over e m → Same known product at (endedOf v over e m at next) (found c past)
   unfolding endedOf
   ended-law (some o) h =
       let f = h .first in
-      rw (ne-eqb over 0 (λ q. omega arith)) (read-done (big over o f (h .marked) (h .listed)))
+      rw (ne-eqb over 0 (λ q. omega arith)) (read-done (big (valueTold v) over o (told-small v) f (h .marked) (h .listed)))
   ended-law none h = rw (eq-eqb over 0 (h .first)) (go (ltb valueLimit v) refl)
     where
-      go : (t : Bool) → ltb valueLimit v ≡ t →
-          Same known product at (pick t (Done (share 0 at e m next)) (pick (pick (eqb e 0) (eqb m 0) false) (Plain v next) (Done (share v 0 e m next)))) (found c past)
-      go true t = read-done (big at at (refl, place) (h .marked) (h .listed ∙ rw (sym (same-test v (value known c) (h .amount refl)) ∙ t)))
+      go : (t : Bool) → ltb valueLimit v ≡ t → Same known product at (Done (share (pick t 0 v) (pick t at 0) e m next)) (found c past)
+      go true t = read-done (big 0 at at (omega arith) (refl, place) (h .marked) (h .listed ∙ rw (sym (same-test v (value known c) (h .amount refl)) ∙ t)))
       go false t =
           let u = sym (same-test v (value known c) (h .amount refl)) ∙ t in
           let a = h .amount refl in
           let x = ltb-false valueLimit v t in
           let y = ltb-false valueLimit (value known c) u in
-          shortened (omega arith) x (h .listed ∙ rw u) (h .added refl) (h .marked) (pick (eqb e 0) (eqb m 0) false) refl
+          read-done (small (omega arith) x (h .listed ∙ rw u) (h .added refl) (h .marked))

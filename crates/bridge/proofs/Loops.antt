@@ -14,8 +14,7 @@ use Rattle.meaning.specs.Judgement.{found, ConstructReader, headLoopAt, tailLoo
 use Rattle.meaning.specs.Answer.{ended, endedIn, ends, tooBig}
 use Rattle.demands.proofs.Good.{Unmarked}
 use Rattle.records.specs.declared.Cursor.{Cursor}
-use Rattle.reader.specs.declared.Tally.{Tally}
-use Rattle.reader.specs.Tallies.{valueCap, chargesOf, counted, isBranch, noTally, withOf, keptOf, valueOf, endedOf, closeOf}
+use Rattle.reader.specs.Tallies.{Tally, valueCap, chargesOf, counted, isBranch, noTally, withOf, keptOf, valueOf, endedOf, closeOf}
 use Rattle.reader.specs.Ways.{bodyOf, innerOf, waysOf}
 use Rattle.reader.specs.Reader.{ChildReader, Owner, ownerOf, listOf}
 use Rattle.bridge.proofs.Agree.{standingOf, occurs, markNumber, either, Same}

@@ -14,10 +14,9 @@ use Rattle.demands.proofs.Found.{Found, not-read, was-read}
 use Rattle.demands.proofs.Records.{Judged}
 use Rattle.demands.proofs.Good.{Good}
 use Rattle.records.specs.declared.Cursor.{Cursor}
-use Rattle.reader.specs.declared.Parsed.{Parsed}
-use Rattle.reader.specs.declared.Parsed.the-variants.{Refused}
+use Rattle.reader.specs.Tallies.{Refused, Parsed}
 use Rattle.reader.specs.Reader.{onParsed, ChildReader}
-use Rattle.bridge.proofs.Agree.{standingOf, occurs, Agrees, Same, both-refused, read-plain, read-done}
+use Rattle.bridge.proofs.Agree.{standingOf, occurs, Agrees, Same, both-refused, read-done}
 
 -- how children are read by the code and by the judgement, and what the judgement finds
 abbrev pub Alike : Known → ChildReader → ConstructReader → Type 0
@@ -43,5 +42,4 @@ pub next-child : {known : Known} {product at inner at' : ℕ} {P : Construct →
     Same known product at (f v o e m next) (k c past)) →
     Same known product at (onParsed q Refused f) (andThen x k)
 next-child f k both-refused (not-read n) h = both-refused
-next-child f k (read-plain a) (was-read g) h = h _ _ _ _ _ _ _ a g
 next-child f k (read-done a) (was-read g) h = h _ _ _ _ _ _ _ a g

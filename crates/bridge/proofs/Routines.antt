@@ -15,8 +15,7 @@ use Rattle.demands.proofs.Records.{Judged, judged-good, routine-is}
 use Rattle.demands.proofs.Good.{good}
 use Rattle.records.specs.declared.Cursor.{Cursor}
 use Rattle.records.specs.Records.{headOf}
-use Rattle.reader.specs.declared.Parsed.the-variants.{Refused}
-use Rattle.reader.specs.Tallies.{noTally}
+use Rattle.reader.specs.Tallies.{Refused, noTally}
 use Rattle.reader.specs.Reader.{onHead, ownerOf, listOf, constructOf, routineOf}
 use Rattle.bridge.proofs.Agree.{Same, both-refused, Finds, Small}
 use Rattle.bridge.proofs.Readers.{then-assoc, past-record}

@@ -1,6 +1,6 @@
 -- A sequence is read by the code as by the judgement.
 use Prim.Native.Nat.{ℕ, zero, suc, _+_, _≤_, min}
-use mathlib.Core.Path.{_≡_, refl, ap, _∙_}
+use mathlib.Core.Path.{_≡_, refl, sym, ap, _∙_}
 use mathlib.Core.Bool.{Bool, true, false}
 use mathlib.Core.List.{List, []}
 use mathlib.Core.Option.{Option, some, none}
@@ -13,12 +13,10 @@ use Rattle.meaning.specs.Judgement.{found, andThen, ConstructReader, list, sequ
 use Rattle.meaning.specs.Answer.{ended, endedIn, tooBig}
 use Rattle.demands.proofs.Good.{Unmarked, Good}
 use Rattle.records.specs.declared.Cursor.{Cursor}
-use Rattle.reader.specs.declared.Parsed.{Parsed}
-use Rattle.reader.specs.declared.Tally.{Tally}
-use Rattle.reader.specs.Tallies.{chargesOf, counted, noTally, withOf, keptOf, closeOf}
+use Rattle.reader.specs.Tallies.{Parsed, Tally, chargesOf, counted, noTally, withOf, keptOf, closeOf}
 use Rattle.reader.specs.Ways.{waysOf, wayOf}
 use Rattle.reader.specs.Reader.{ChildReader, Owner, ownerOf, listOf}
-use Rattle.reader.proofs.Laws.{plain-over}
+use Rattle.reader.proofs.Tells.{over-kept}
 use Rattle.bridge.proofs.Agree.{standingOf, occurs, markNumber, either, Agrees, Same}
 use Rattle.bridge.proofs.Standings.{first-occurs, way-first, way-later}
 use Rattle.bridge.proofs.Ends.{big-end, ended-law}
@@ -45,7 +43,7 @@ led-mark : {known : Known} {n product at past : ℕ} {t : Tally} {marks : List �
     Led cs → t .mark ≡ markNumber (leading cs)
 unfolding withOf
 led-mark no-more h = refl
-led-mark (one-more {m = m} {c = c} g q rest) h = adds-mark (λ _. refl) rest (h .1) ∙ plain-over m ∙ g .marked ∙ rw (h .0, either-none (itself c))
+led-mark (one-more {m = m} {c = c} g q rest) h = adds-mark (λ _. refl) rest (h .1) ∙ sym (over-kept m) ∙ g .marked ∙ rw (h .0, either-none (itself c))
 
 module _ (known : Known) (s : List ℕ) (before own : ℕ) (number : own ≡ before + 1) (depth : ℕ) (read : ChildReader) (g : ConstructReader) (alike : Alike known read g)
     (sure : Sure s before own number depth g) (n product held start : ℕ) (cap : held ≡ min 1000000 product) (place : 1 ≤ start) (r : Reach)

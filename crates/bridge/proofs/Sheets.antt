@@ -17,15 +17,15 @@ use Rattle.demands.proofs.Found.{Found, not-read, was-read}
 use Rattle.demands.proofs.Records.{Judged, judged-good, sheet-is}
 use Rattle.records.specs.declared.Cursor.{Cursor}
 use Rattle.records.specs.Records.{headOf}
-use Rattle.reader.specs.declared.Parsed.{Parsed}
 use Rattle.reader.specs.declared.Bounds.{Bounds}
 use Rattle.reader.specs.declared.Progress.{Progress}
 use Rattle.reader.specs.declared.Report.{Report}
 use Rattle.reader.specs.declared.Answer.the-variants.{Accepted}
+use Rattle.reader.specs.Tallies.{Parsed}
 use Rattle.reader.specs.Reader.{onHead, onParsed, noBounds, boundsWith, progressFrom, progressWith, refusal, verdictOf, routinesOf, sheetOf}
 use Rattle.reader.specs.Said.{saidOf}
 use Rattle.reader.specs.Reports.{storedOf, partSaid}
-use Rattle.bridge.proofs.Agree.{Over, Agrees, Same, both-refused, read-plain, read-done}
+use Rattle.bridge.proofs.Agree.{Over, Agrees, Same, both-refused, read-done}
 use Rattle.bridge.proofs.Marks.{first-most}
 use Rattle.bridge.proofs.Readers.{past-record}
 use Rattle.bridge.proofs.More.{asLoop, Long, sheetWith, more}
@@ -114,7 +114,6 @@ module _ (s : List ℕ) (number edition : ℕ) where
           Reports s number (onParsed q (λ k p. refusal (length s) k p b) (λ v o e m next. onward v o next))
           (verdictWith rs (andThen g (λ r past. after r (later past))))
       by-routine (not-read {number = k} {place = p} n) both-refused = refusal-law s number k p b
-      by-routine (was-read long) (read-plain a) = one-more long a
       by-routine (was-read long) (read-done a) = one-more long a
 
   routines-law : (n : ℕ) → RoutinesLaw n

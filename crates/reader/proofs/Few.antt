@@ -11,11 +11,10 @@ use Rattle.records.specs.declared.Head.{Head}
 use Rattle.records.specs.declared.Head.the-variants as head
 use Rattle.meaning.specs.Judgement.{sheet}
 use Rattle.records.proofs.Good.{sheet-fine}
-use Rattle.reader.specs.declared.Parsed.{Parsed}
-use Rattle.reader.specs.declared.Parsed.the-variants.{Plain, Done, Refused}
 use Rattle.reader.specs.declared.Bounds.{Bounds}
 use Rattle.reader.specs.declared.Progress.{Progress}
 use Rattle.reader.specs.declared.Report.{Report}
+use Rattle.reader.specs.Tallies.{Parsed, Done, Refused}
 use Rattle.reader.specs.Reader.{recordOf, onHead, onParsed, routineOf, noBounds, boundsWith, progressFrom, progressWith}
 use Rattle.reader.specs.Reader.{refusal, verdictOf, routinesOf, sheetOf, readOf}
 use Rattle.reader.proofs.Laws.{picked}
@@ -25,7 +24,6 @@ pub record Few (r : Report) : Type 0 where
 
 few-parsed : (x : Parsed) (g : ℕ → ℕ → Report) (f : ℕ → ℕ → ℕ → ℕ → Cursor → Report) → ((k p : ℕ) → Few (g k p)) →
     ((v o e m : ℕ) (next : Cursor) → Few (f v o e m next)) → Few (onParsed x g f)
-few-parsed (Plain v next) g f h k = k v 0 0 0 next
 few-parsed (Done p) g f h k = k (p .value) (p .over) (p .added) (p .mark) (p .next)
 few-parsed (Refused number place) g f h k = h number place
 

@@ -1,5 +1,5 @@
--- What holds whenever the loop of `list` is at its test, `Going`, and how each child that is read, a `Child`, keeps it.
-use Prim.Native.Nat.{ℕ, zero, suc, _+_, _-_, _*_, _≤_, _<_}
+-- What holds whenever the loop of a list is at its test, `Going`, and how each child that is read, a `Child`, keeps it.
+use Prim.Native.Nat.{ℕ, zero, suc, _+_, _-_, _*_, _≤_, _<_, min}
 use mathlib.Core.Path.{_≡_, refl, sym, ap, _∙_}
 use mathlib.Core.Bool.{Bool, true, false}
 use mathlib.Core.List.{List, [], _∷_, _++_}
@@ -9,15 +9,13 @@ use lib.Seq.{take-take, take-append-le, drop-append-le}
 use native.Mathlib.Omega.{arith}
 use Rattle.meaning.specs.Format.{pick}
 use Rattle.records.specs.declared.Cursor.{Cursor}
-use Rattle.reader.specs.declared.Share.{Share}
-use Rattle.reader.specs.declared.Parsed.{Parsed}
-use Rattle.reader.specs.declared.Parsed.the-variants.{Plain, Done, Refused}
-use Rattle.reader.specs.declared.Tally.{Tally}
-use Rattle.reader.specs.Tallies.{isBranch, noTally, withOf, keptOf, Held, Tells}
-use Rattle.reader.specs.Reader.{Owner, ChildReader, childOf, listOf}
-use Rattle.reader.proofs.Laws.{Kept}
-use Rattle.reader.proofs.Tells.{tells-plain, tells-done}
-use Rattle.reader.proofs.Lists.{list-refused, list-plain, list-done}
+use Rattle.reader.specs.declared.Parsed as code
+use Rattle.reader.specs.declared.Parsed.the-variants as parsed
+use Rattle.reader.specs.Tallies.{Aside, valueCap, isBranch, Share, Done, Refused, Tally, noTally, withOf, keptOf, asideOf, Counts, Held, Told, Valued}
+use Rattle.reader.specs.Reader.{Owner, ChildReader, childOf, listOf, listFrom, Within}
+use Rattle.reader.proofs.Laws.{Kept, held-more}
+use Rattle.reader.proofs.Tells.{over-kept, over-three}
+use Rattle.reader.proofs.Lists.{list-refused, list-done}
 
 -- the marked branches that a list keeps: from its base up to those held
 abbrev pub kept : ℕ → ℕ → List ℕ → List ℕ
@@ -63,10 +61,11 @@ module _ (kind i v m : ℕ) (xs : List ℕ) where
       let n = length-append xs ((v * 1048576 + (m - 1)) ∷ []) in
       keeps kind i v m (λ f. (length xs ≤ length (f xs)) × (length (f xs) ≤ length xs + 1)) (omega arith, omega arith) (omega arith, omega arith)
 
-module _ (read : ChildReader) (o : Owner) (s lent : List ℕ) (n base : ℕ) (from : Cursor) where
+module _ (read : ChildReader) (o : Owner) (s lent : List ℕ) (n base : ℕ) (from : Cursor) (first : Aside) where
   -- So far the children from `from` on come to the tally t and the marks kept, the next stands at c, and what was lent below the base is as it was.
-  pub record Going (marks : List ℕ) (t : Tally) (held : ℕ) (c : Cursor) (i : ℕ) : Type 0 where
-    pub same : listOf read o (n - i) i c t (kept base held marks) ≡ listOf read o n 0 from noTally []
+  -- What is told aside is what was told first and what the tally tells; where a branch is read, the mark is kept apart.
+  pub record Going (marks : List ℕ) (t : Tally) (held : ℕ) (c : Cursor) (i : ℕ) (aside : Aside) (marked : ℕ) : Type 0 where
+    pub same : listOf read o (n - i) i c t (kept base held marks) ≡ listFrom read o n from
     pub tally : Held (o .kind) i t
     pub count : i ≤ n
     pub above : base ≤ held
@@ -75,9 +74,12 @@ module _ (read : ChildReader) (o : Owner) (s lent : List ℕ) (n base : ℕ) (fr
     pub inside : c .at ≤ length s
     pub below : take base marks ≡ take base lent
     pub long : length marks ≡ length lent
+    pub over : aside .over ≡ pick (eqb (first .over) 0) (t .over) (first .over)
+    pub added : aside .added ≡ min valueCap (first .added + t .added)
+    pub mark : marked ≡ pick (eqb (t .mark) 0) (first .mark) (t .mark)
 
-  pub going-first : 8 * base ≤ from .at → o .start + 8 ≤ from .at → from .at ≤ length s → Going lent noTally base from 0
-  going-first h k l =
+  pub going-first : 8 * base ≤ from .at → Within s (o .start) (from .at) → first .added ≤ valueCap → Going lent noTally base from 0 first (first .mark)
+  going-first h w few =
       let m = length-take base lent in
       let e : kept base base lent ≡ [] = drop-of-length-le (take base lent) {i = base} (omega arith) in
       let z : n - 0 ≡ n = omega arith in
@@ -87,80 +89,120 @@ module _ (read : ChildReader) (o : Owner) (s lent : List ℕ) (n base : ℕ) (fr
         count = omega arith;
         above = omega arith;
         room = h;
-        past = k;
-        inside = l;
+        past = w .past;
+        inside = w .inside;
         below = refl;
         long = refl;
+        over = over-kept (first .over);
+        added = omega arith;
+        mark = refl;
       }
 
-  -- Child i was read: it came to x, and the marks to those after it.
-  pub record Child (marks : List ℕ) (t : Tally) (held : ℕ) (c : Cursor) (i : ℕ) (after : List ℕ) (x : Parsed) : Type 0 where
-    pub going : Going marks t held c i
+  -- Child i was read, where so much was lent aside, and told p: its value and the cursor past it were returned, and the marks came to those after it.
+  pub record Child (marks : List ℕ) (t : Tally) (held : ℕ) (c : Cursor) (i : ℕ) (aside : Aside) (marked : ℕ) (lends : Aside) (after : List ℕ) (p : Share) (v : ℕ)
+      (next : Cursor) (b : Aside) : Type 0 where
+    pub going : Going marks t held c i aside marked
     pub spare : length s ≤ 8 * length lent
+    pub counts : Counts (o .kind) (o .first)
     pub more : i < n
-    pub is : childOf read o i (held - base) c ≡ x
-    pub tells : Tells (length s) (c .at) x
+    pub lent-over : lends .over ≡ aside .over
+    pub lent-added : lends .added ≡ aside .added
+    pub is : childOf read o i (held - base) c ≡ Done p
+    pub value : v ≡ p .value
+    pub past : next ≡ p .next
+    pub after-it : b ≡ asideOf lends (p .over) (p .added) (p .mark)
+    pub fine : Told (length s) (c .at) p
     pub still : take held after ≡ take held marks
     pub long : length after ≡ length marks
 
-module _ {read : ChildReader} {o : Owner} {s lent : List ℕ} {n base : ℕ} {from : Cursor} {marks : List ℕ} {t : Tally} {held : ℕ} {c : Cursor} {i : ℕ}
-    {after : List ℕ} {x : Parsed} (k : Child read o s lent n base from marks t held c i after x) where
+module _ {read : ChildReader} {o : Owner} {s lent : List ℕ} {n base : ℕ} {from : Cursor} {first : Aside} {marks : List ℕ} {t : Tally} {held : ℕ} {c : Cursor}
+    {i : ℕ} {aside : Aside} {marked : ℕ} where
   -- what was lent is as it was below the base, and as long
-  pub child-below : take base after ≡ take base lent
-  child-below = below-still after marks (k .going .above) (k .still) ∙ k .going .below
+  pub still-below : (after : List ℕ) → Going read o s lent n base from first marks t held c i aside marked → take held after ≡ take held marks →
+      take base after ≡ take base lent
+  still-below after g still = below-still after marks (g .above) still ∙ g .below
 
-  pub child-long : length after ≡ length lent
-  child-long = k .long ∙ k .going .long
+  pub still-long : (after : List ℕ) → Going read o s lent n base from first marks t held c i aside marked → length after ≡ length marks →
+      length after ≡ length lent
+  still-long after g long = long ∙ g .long
 
-  child-is : {y : Parsed} → x ≡ y → childOf read o i (length (kept base held marks)) c ≡ y
-  child-is e = rw (length-kept base held marks (omega arith)) (k .is ∙ e)
+  -- what is added is held just over the limit
+  pub added-small : Going read o s lent n base from first marks t held c i aside marked → aside .added ≤ valueCap
+  added-small g = omega (arith, g .added)
 
-  pub child-refused : {number place : ℕ} → x ≡ Refused number place → listOf read o n 0 from noTally [] ≡ Refused number place
-  child-refused e = sym (k .going .same) ∙ list-refused read o n i c t (kept base held marks) (k .more) (child-is e)
+  -- there is room for the marks that are held
+  pub held-room : Going read o s lent n base from first marks t held c i aside marked → length s ≤ 8 * length lent → held ≤ length marks
+  held-room g spare = omega (arith, g .room, g .inside, g .long)
 
-  -- a child told plainly: the marks are as they were up to those held
-  pub child-plain : {v : ℕ} {next : Cursor} {u : Tally} → x ≡ Plain v next →
-      (u ≡ withOf (o .kind) (o .first) i t v 0 0 0) × Held (o .kind) (i + 1) u → Going read o s lent n base from after u held next (i + 1)
-  child-plain e (add, hold) =
-      let told = tells-plain e (k .tells) in
+  -- a refusal of a child is one of the list
+  pub child-refused : {number place : ℕ} → Going read o s lent n base from first marks t held c i aside marked → length s ≤ 8 * length lent → i < n →
+      childOf read o i (held - base) c ≡ Refused number place → listFrom read o n from ≡ Refused number place
+  child-refused g spare more e =
+      let m = length-kept base held marks (held-room g spare) in
+      sym (g .same) ∙ list-refused read o n i c t (kept base held marks) more (rw m e)
+
+  pub child-of : {lends b : Aside} (after : List ℕ) {v : ℕ} {next : Cursor} →
+      (w : Valued (length s) (c .at) lends (childOf read o i (held - base) c) (parsed.Value v next) b) →
+      Going read o s lent n base from first marks t held c i aside marked → length s ≤ 8 * length lent → Counts (o .kind) (o .first) → i < n →
+      lends .over ≡ aside .over → lends .added ≡ aside .added → take held after ≡ take held marks → length after ≡ length marks →
+      Child read o s lent n base from first marks t held c i aside marked lends after (w .told) v next b
+  child-of after w g spare counts more over added still long =
+      let e = w .returned in
       record {
-        same = rw (k .still, add, ← list-plain read o n i c t (kept base held marks) (k .more) (child-is e)) (k .going .same);
-        tally = hold;
-        count = omega arith;
-        above = k .going .above;
-        room = omega arith;
-        past = omega arith;
-        inside = told .inside;
-        below = child-below;
-        long = child-long;
+        going = g;
+        spare = spare;
+        counts = counts;
+        more = more;
+        lent-over = over;
+        lent-added = added;
+        is = w .is;
+        value = cc;
+        past = cc;
+        after-it = w .aside;
+        fine = w .fine;
+        still = still;
+        long = long;
       }
 
-  -- there is room for one mark more
-  pub child-room : {p : Share} → x ≡ Done p → held < length after
-  child-room e = let told = tells-done e (k .tells) in omega arith
+  module _ {lends b : Aside} {after : List ℕ} {p : Share} {v : ℕ} {next : Cursor}
+      (k : Child read o s lent n base from first marks t held c i aside marked lends after p v next b) where
+    -- there is room for one mark more
+    pub child-room : held < length after
+    child-room = omega (arith, k .spare, k .going .room, k .going .long, k .long, k .fine .past, k .fine .inside)
 
-  -- any other child; where it is a marked branch, one mark more is kept
-  pub child-done : {p : Share} {u : Tally} {holds : ℕ} {last : List ℕ} → x ≡ Done p →
-      (u ≡ withOf (o .kind) (o .first) i t (p .value) (p .over) (p .added) (p .mark)) × Held (o .kind) (i + 1) u →
-      Kept (o .kind) i (p .value) (p .mark) held after holds last → Going read o s lent n base from last u holds (p .next) (i + 1)
-  child-done {p} {holds = holds} {last = last} e (add, hold) (many, (kept-as, longer)) =
-      let told = tells-done e (k .tells) in
-      let xs = take held marks in
-      let m = length-take held marks in
-      let (low, high) = kept-longer (o .kind) i (p .value) (p .mark) xs in
-      let h : holds ≡ length (keptOf (o .kind) i (p .value) (p .mark) xs) = rw (k .still) at many in
-      let is : take holds last ≡ keptOf (o .kind) i (p .value) (p .mark) xs = rw (k .still) at kept-as in
-      let step = list-done read o n i c t (kept base held marks) (k .more) (child-is e) in
-      record {
-        same = rw (is, kept-more (o .kind) i (p .value) (p .mark) xs base (omega arith), add, ← step) (k .going .same);
-        tally = hold;
-        count = omega arith;
-        above = omega arith;
-        room = omega arith;
-        past = omega arith;
-        inside = told .inside;
-        below =
-            sym (take-take base holds last (omega arith)) ∙ ap (take base) is ∙ kept-below (o .kind) i (p .value) (p .mark) xs base (omega arith)
-            ∙ take-take base held marks (k .going .above) ∙ k .going .below;
-        long = longer ∙ child-long;
-      }
+    -- the tally with it
+    abbrev pub tallied : Tally
+    tallied = withOf (o .kind) (o .first) i t v (p .over) (p .added) (p .mark)
+
+    -- one child more; where it is a marked branch, one mark more is kept
+    pub child-more : {holds : ℕ} {last : List ℕ} {marked' : ℕ} → Kept (o .kind) i v (p .mark) held after holds last →
+        marked' ≡ pick (eqb (tallied .mark) 0) (first .mark) (tallied .mark) → Going read o s lent n base from first last tallied holds next (i + 1) b marked'
+    unfolding withOf
+    child-more {holds} {last} (many, (kept-as, longer)) marks-as =
+        let g = k .going in
+        let fine = k .fine in
+        let xs = take held marks in
+        let m = length-take held marks in
+        let full = length-kept base held marks (held-room g (k .spare)) in
+        let (low, high) = kept-longer (o .kind) i v (p .mark) xs in
+        let h : holds ≡ length (keptOf (o .kind) i v (p .mark) xs) = rw (k .still) at many in
+        let is : take holds last ≡ keptOf (o .kind) i v (p .mark) xs = rw (k .still) at kept-as in
+        let at-past : next .at ≡ p .next .at = ap (λ z. z .at) (k .past) in
+        let step = list-done read o n i c t (kept base held marks) {p = p} (k .more) (rw full (k .is)) in
+        let step' = rw (← k .value, ← k .past) at step in
+        record {
+          same = rw (is, kept-more (o .kind) i v (p .mark) xs base (omega arith), ← step') (g .same);
+          tally = held-more (p .over) (p .added) (k .counts) (g .tally) (rw (k .value) (fine .value)) (fine .mark);
+          count = omega (arith, k .more);
+          above = omega (arith, g .above);
+          room = omega (arith, g .room, fine .past);
+          past = omega (arith, g .past, fine .past);
+          inside = omega (arith, fine .inside);
+          below =
+              sym (take-take base holds last (omega (arith, g .above))) ∙ ap (take base) is
+              ∙ kept-below (o .kind) i v (p .mark) xs base (omega (arith, g .above)) ∙ take-take base held marks (g .above) ∙ g .below;
+          long = longer ∙ k .long ∙ g .long;
+          over = ap (λ z. z .over) (k .after-it) ∙ rw (k .lent-over, g .over) (over-three (first .over) (t .over) (p .over));
+          added = ap (λ z. z .added) (k .after-it) ∙ rw (k .lent-added, g .added) (omega arith);
+          mark = marks-as;
+        }

@@ -1,7 +1,7 @@
 -- Laws of what the private functions on values come to: how far each sum can grow, one child more, and the marked branches kept.
 use Prim.Native.Nat.{ℕ, _+_, _-_, _*_, _/_, _%_, _≤_, _<_, min, max}
-use mathlib.Core.Path.{_≡_, refl, sym}
-use mathlib.Core.Bool.{Bool, true, false}
+use mathlib.Core.Path.{_≡_, refl, sym, _∙_}
+use mathlib.Core.Bool.{Bool, true, false, false≢true}
 use mathlib.Core.List.{List, [], _∷_}
 use lib.Dec.{eqb}
 use lib.ListN.{length, take, drop, getD, set, drop-of-length-le, length-set, length-append, length-take}
@@ -11,8 +11,7 @@ use native.Mathlib.Omega.{arith}
 use native.Mathlib.Nat.{mul-le-mul}
 use native.Mathlib.Numerals.{add-one}
 use Rattle.meaning.specs.Format.{pick}
-use Rattle.reader.specs.declared.Tally.{Tally}
-use Rattle.reader.specs.Tallies.{valueCap, chargeOf, chargesOf, isLoop, counted, isBranch, withOf, keptOf, heaviest, heaviestSum, Counts, Held}
+use Rattle.reader.specs.Tallies.{valueCap, chargeOf, chargesOf, isLoop, counted, isBranch, Tally, withOf, keptOf, heaviest, heaviestSum, Counts, Held}
 
 -- what holds of both holds of either
 pub picked : {A : Type 0} {a b : A} (P : A → Type 0) (t : Bool) → P a → P b → P (pick t a b)
@@ -22,7 +21,7 @@ picked P false h k = k
 pub pick-most : {a b most : ℕ} (t : Bool) → a ≤ most → b ≤ most → pick t a b ≤ most
 pick-most {most = most} = picked (λ x. x ≤ most)
 
-pick-same : (t : Bool) (a : ℕ) → pick t a a ≡ a
+pub pick-same : {A : Type 0} (t : Bool) (a : A) → pick t a a ≡ a
 pick-same t a = picked (λ x. x ≡ a) t refl refl
 
 -- products stay in 64 bits
@@ -72,52 +71,31 @@ some-heavier kind = picked (λ x. 1099511627775 ≤ x) (isLoop kind) (omega arit
 pub fewer-small : (i n kind : ℕ) → i ≤ n → n * heaviest kind ≤ heaviestSum → i * heaviest kind ≤ heaviestSum
 fewer-small i n kind h k = let m : i * heaviest kind ≤ n * heaviest kind = mul-le-mul h (omega arith) in omega arith
 
--- a branch more, and any other child more
-pub branch-more : (kind count i : ℕ) (t : Tally) (v o e m : ℕ) → isBranch kind i ≡ true →
-    withOf kind count i t v o e m ≡ record {
-      sum = t .sum;
-      top = pick (eqb m 0) (max (t .top) v) (t .top);
-      added = min valueCap (t .added + e);
-      mark = t .mark;
-      over = pick (eqb (t .over) 0) o (t .over);
-    }
-unfolding withOf
-branch-more kind count i t v o e m h = rw (h, pick-same)
-
-pub child-more : (kind count i : ℕ) (t : Tally) (v o e m : ℕ) → isBranch kind i ≡ false →
-    withOf kind count i t v o e m ≡ record {
-      sum = t .sum + counted kind count i v;
-      top = t .top;
-      added = min valueCap (t .added + e);
-      mark = pick (eqb m 0) (t .mark) m;
-      over = pick (eqb (t .over) 0) o (t .over);
-    }
-unfolding withOf
-child-more kind count i t v o e m h = rw h
+-- no limit on what is counted once
+pub no-loop : {kind count : ℕ} → isLoop kind ≡ false → Counts kind count
+no-loop e = record { loop = λ f. absurd (false≢true (sym e ∙ f)) }
 
 next-heavier : (i h : ℕ) → (i + 1) * h ≡ i * h + h
 next-heavier i h = omega arith
 
--- what is held after one child more
-pub held-more : {kind i : ℕ} {t u : Tally} → Held kind i t → u .sum ≤ t .sum + heaviest kind → u .top ≤ 1099511627775 → u .added ≤ valueCap →
-    u .mark ≤ 1000001 → Held kind (i + 1) u
-held-more {kind} {i} h sum top added mark =
-    let n = next-heavier i (heaviest kind) in
-    record { sum = omega (arith, h .sum); top = top; added = added; mark = mark }
-
 pub sum-fits : (kind i : ℕ) {t : Tally} → Held kind i t → (i + 1) * heaviest kind ≤ heaviestSum → t .sum + heaviest kind ≤ heaviestSum
 sum-fits kind i h k = omega (arith, next-heavier i (heaviest kind), h .sum)
 
--- of a child that is told plainly nothing is added but its value
-pub plain-added : {added : ℕ} → added ≤ valueCap → min valueCap (added + 0) ≡ added
-plain-added h = omega arith
-
-pub plain-over : (over : ℕ) → pick (eqb over 0) 0 over ≡ over
-plain-over over = go (eqb over 0) refl
-  where
-    go : (t : Bool) → eqb over 0 ≡ t → pick t 0 over ≡ over
-    go true e = sym (eqb-true over 0 e)
-    go false e = refl
+-- what is held after one child more
+pub held-more : {kind count i : ℕ} {t : Tally} {v m : ℕ} (o e : ℕ) → Counts kind count → Held kind i t → v ≤ 1099511627775 → m ≤ 1000001 →
+    Held kind (i + 1) (withOf kind count i t v o e m)
+unfolding withOf
+held-more {kind} {count} {i} {t} {v} {m} o e counts h small few =
+    let n = next-heavier i (heaviest kind) in
+    let c = child-small kind count i v counts small in
+    let none : t .sum ≤ (i + 1) * heaviest kind = omega (arith, h .sum) in
+    let one : t .sum + counted kind count i v ≤ (i + 1) * heaviest kind = omega (arith, h .sum) in
+    record {
+      sum = picked (λ x. x ≤ (i + 1) * heaviest kind) (isBranch kind i) none one;
+      top = pick-most (isBranch kind i) (pick-most (eqb m 0) (omega (arith, h .top)) (h .top)) (h .top);
+      added = omega arith;
+      mark = pick-most (eqb m 0) (h .mark) (pick-most (isBranch kind i) (h .mark) few);
+    }
 
 -- The list `marks` up to `held` after a child: as it was, or with one marked branch more.
 module _ (kind i value mark held : ℕ) (marks : List ℕ) where
@@ -129,9 +107,9 @@ module _ (kind i value mark held : ℕ) (marks : List ℕ) where
   unfolding keptOf
   kept-none e h = rw e (let n = length-take held marks in (omega arith, (refl, refl)))
 
-  pub kept-other : eqb mark 0 ≡ false → isBranch kind i ≡ false → held ≤ length marks → Kept held marks
+  pub kept-other : isBranch kind i ≡ false → held ≤ length marks → Kept held marks
   unfolding keptOf
-  kept-other e b h = rw (e, b) (let n = length-take held marks in (omega arith, (refl, refl)))
+  kept-other b h = rw (b, pick-same) (let n = length-take held marks in (omega arith, (refl, refl)))
 
   pub kept-one : eqb mark 0 ≡ false → isBranch kind i ≡ true → held < length marks → Kept (held + 1) (set marks held (value * 1048576 + (mark - 1)))
   unfolding keptOf
@@ -140,3 +118,8 @@ module _ (kind i value mark held : ℕ) (marks : List ℕ) where
       let n = length-take held marks in
       let m = length-append (take held marks) (x ∷ []) in
       rw (e, b) (omega arith, (rw (add-one held) (take-suc-set marks held x h), length-set marks held x))
+
+-- what is no branch is not kept, whatever its mark
+pub kept-alike : (kind i value mark other : ℕ) (marks : List ℕ) → isBranch kind i ≡ false → keptOf kind i value mark marks ≡ keptOf kind i value other marks
+unfolding keptOf
+kept-alike kind i value mark other marks b = rw b (pick-same (eqb mark 0) marks ∙ sym (pick-same (eqb other 0) marks))

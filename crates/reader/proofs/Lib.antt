@@ -1,7 +1,13 @@
 pub mod Laws
-pub mod Lists
 pub mod Tells
+pub mod Lists
+pub mod Children
+pub mod Constructs
 pub mod Going
+pub mod Summing
+pub mod Branches
+pub mod Timed
 pub mod Under
 pub mod Few
 pub mod Determined
+pub mod Depths

@@ -1,6 +1,6 @@
 -- Laws of what `routine` and `routines` come to, and what holds whenever the loop of `routines` is at its test.
 use Prim.Native.Nat.{ℕ, zero, suc, _+_, _-_, _≤_, _<_}
-use mathlib.Core.Path.{_≡_, refl, sym, _∙_}
+use mathlib.Core.Path.{_≡_, refl, sym, ap, _∙_}
 use mathlib.Core.List.{List, [], _∷_}
 use lib.ListN.{length, getD, set, replicate}
 use native.Mathlib.Omega.{arith}
@@ -8,20 +8,12 @@ use Rattle.records.specs.declared.Cursor.{Cursor}
 use Rattle.records.specs.declared.Read.{Read}
 use Rattle.records.specs.declared.Head.the-variants as head
 use Rattle.meaning.specs.Judgement.{sheet, routine}
-use Rattle.reader.specs.declared.Share.{Share}
-use Rattle.reader.specs.declared.Parsed.{Parsed}
-use Rattle.reader.specs.declared.Parsed.the-variants.{Plain, Done, Refused}
+use Rattle.reader.specs.declared.Parsed.the-variants as parsed
 use Rattle.reader.specs.declared.Bounds.{Bounds}
 use Rattle.reader.specs.declared.Progress.{Progress}
-use Rattle.reader.specs.Tallies.{noTally, Tells}
-use Rattle.reader.specs.Reader.{recordOf, onParsed, ownerOf, listOf, constructOf, routineOf, Owns}
+use Rattle.reader.specs.Tallies.{Aside, Share, Done, Refused, noAside, asideOf, Told, Valued}
+use Rattle.reader.specs.Reader.{recordOf, onParsed, ownerOf, listFrom, constructOf, routineOf}
 use Rattle.reader.specs.Reader.{noBounds, boundsWith, progressFrom, progressWith, refusal, verdictOf, routinesOf, sheetOf}
-use Rattle.reader.proofs.Lists.{no-loop}
-use Rattle.reader.proofs.Tells.{tells-plain, tells-done}
-
--- a routine owns its body
-pub owns-body : {organisation : ℕ} → organisation ≤ 4294967295 → Owns 7 organisation 1
-owns-body h = record { counts = no-loop refl; cost = h; few = omega arith; sum = omega arith }
 
 module _ (s bounds : List ℕ) (own : ℕ) (c : Cursor) where
   pub routine-refused : {number place : ℕ} → recordOf s routine c ≡ head.Refused number place → routineOf s bounds own c ≡ Refused number place
@@ -29,7 +21,7 @@ module _ (s bounds : List ℕ) (own : ℕ) (c : Cursor) where
   routine-refused e = rw e
 
   pub routine-good : {r : Read} → recordOf s routine c ≡ head.Good r →
-      routineOf s bounds own c ≡ listOf (constructOf 24 s bounds own) (ownerOf 7 (r .first) 0 (c .at) 0 0) 1 0 (r .next) noTally []
+      routineOf s bounds own c ≡ listFrom (constructOf 24 s bounds own) (ownerOf 7 (r .first) 0 (c .at) 0 0) 1 (r .next)
   unfolding routineOf
   routine-good e = rw e
 
@@ -73,44 +65,37 @@ module _ (n : ℕ) (s lent : List ℕ) (number : ℕ) (none : Bounds) (first : P
   unfolding noBounds
   under-none e = rw e (let z : n - 0 ≡ n = omega arith in record { same = rw z; few = omega arith; small = none-small 64; long = refl })
 
-  -- One routine more was read: it came to x, and the marks to those after it.
-  pub record Turn (marks : List ℕ) (b : Bounds) (progress : Progress) (after : List ℕ) (x : Parsed) : Type 0 where
-    pub under : Under marks b progress
-    pub more : b .count < n
-    pub is : routineOf s (b .values) (b .count + 1) (progress .at) ≡ x
-    pub tells : Tells (length s) (progress .at .at) x
-    pub long : length after ≡ length marks
+module _ {n : ℕ} {s lent : List ℕ} {number : ℕ} {none : Bounds} {first : Progress} {marks : List ℕ} {b : Bounds} {progress : Progress}
+    (under : Under n s lent number none first marks b progress) (more : b .count < n) where
+  pub turn-refused : {k p : ℕ} → routineOf s (b .values) (b .count + 1) (progress .at) ≡ Refused k p → routinesOf n s number none first ≡ refusal (length s) k p b
+  turn-refused e = rw (← under .same, routines-step n s number b progress more, e)
 
-module _ {n : ℕ} {s lent : List ℕ} {number : ℕ} {none : Bounds} {first : Progress} {marks : List ℕ} {b : Bounds} {progress : Progress} {after : List ℕ} {x : Parsed}
-    (t : Turn n s lent number none first marks b progress after x) where
-  pub turn-long : length after ≡ length lent
-  turn-long = t .long ∙ t .under .long
-
-  pub turn-refused : {k p : ℕ} → x ≡ Refused k p → routinesOf n s number none first ≡ refusal (length s) k p b
-  turn-refused e = rw (← t .under .same, routines-step n s number b progress (t .more), t .is ∙ e)
-
-  under-more : {u : Progress} (value over : ℕ) (next : Cursor) →
-      routinesOf (n - b .count) s number b progress
-      ≡ routinesOf (n - (b .count + 1)) s number (boundsWith b value) (progressWith progress (b .count + 1) number value over next) →
-      value ≤ 1099511627775 → u ≡ progressWith progress (b .count + 1) number value over next →
-      Under n s lent number none first after (record { values = set (b .values) (b .count) value; count = b .count + 1 }) u
-  unfolding boundsWith
-  under-more value over next step small e = record {
-    same = rw e (sym step ∙ t .under .same);
-    few = omega arith;
-    small = set-small (b .values) (b .count) value (t .under .small) small;
-    long = turn-long;
-  }
-
-  pub turn-plain : {v : ℕ} {next : Cursor} {u : Progress} → x ≡ Plain v next → u ≡ progressWith progress (b .count + 1) number v 0 next →
+  -- one routine more was read, and told p
+  told-more : {u : Progress} {v : ℕ} {next : Cursor} (p : Share) (after : List ℕ) → routineOf s (b .values) (b .count + 1) (progress .at) ≡ Done p →
+      Told (length s) (progress .at .at) p → v ≡ p .value → next ≡ p .next → length after ≡ length marks →
+      u ≡ progressWith progress (b .count + 1) number v (p .over) next →
       Under n s lent number none first after (record { values = set (b .values) (b .count) v; count = b .count + 1 }) u
-  turn-plain {v} {next} e f =
-      under-more v 0 next (rw (routines-step n s number b progress (t .more), t .is ∙ e)) (tells-plain e (t .tells) .value) f
+  unfolding boundsWith
+  told-more {v = v} p after is fine value past long e =
+      let step = rw is at (routines-step n s number b progress more) in
+      let step' = rw (← value, ← past) at step in
+      record {
+        same = rw e (sym step' ∙ under .same);
+        few = omega arith;
+        small = set-small (b .values) (b .count) v (under .small) (rw value (fine .value));
+        long = long ∙ under .long;
+      }
 
-  pub turn-done : {p : Share} {u : Progress} → x ≡ Done p → u ≡ progressWith progress (b .count + 1) number (p .value) (p .over) (p .next) →
-      Under n s lent number none first after (record { values = set (b .values) (b .count) (p .value); count = b .count + 1 }) u
-  turn-done {p} e f =
-      under-more (p .value) (p .over) (p .next) (rw (routines-step n s number b progress (t .more), t .is ∙ e)) (tells-done e (t .tells) .value) f
+  pub turn-more : {u : Progress} {aside : Aside} {v : ℕ} {next : Cursor} (after : List ℕ) →
+      Valued (length s) (progress .at .at) noAside (routineOf s (b .values) (b .count + 1) (progress .at)) (parsed.Value v next) aside →
+      length after ≡ length marks → u ≡ progressWith progress (b .count + 1) number v (aside .over) next →
+      Under n s lent number none first after (record { values = set (b .values) (b .count) v; count = b .count + 1 }) u
+  turn-more {u} {v = v} {next = next} after w long e =
+      let same = w .returned in
+      let value : v ≡ w .told .value = cc in
+      let past : next ≡ w .told .next = cc in
+      told-more (w .told) after (w .is) (w .fine) value past long (
+      e ∙ ap (λ z. progressWith progress (b .count + 1) number v z next) (ap (λ z. z .over) (w .aside)))
 
 module _ (s : List ℕ) (number : ℕ) where
   pub sheet-refused : {k p : ℕ} → recordOf s sheet (record { at = 0 }) ≡ head.Refused k p →

@@ -1,7 +1,6 @@
 -- What the readers come to, in the code's shape: one pass over the bytes that builds no tree. The crate bridge ties them to document 01.
 use Prim.Native.Nat.{ℕ, zero, suc, _+_, _-_, _*_, _≤_}
 use mathlib.Core.Path.{_≡_}
-use mathlib.Core.Bool.{Bool, false, not}
 use mathlib.Core.List.{List, []}
 use lib.ListN.{length, getD, set, replicate}
 use lib.Dec.{ltb, eqb}
@@ -12,15 +11,14 @@ use Rattle.records.specs.declared.Cursor.{Cursor}
 use Rattle.records.specs.declared.Read.{Read}
 use Rattle.records.specs.declared.Head.{Head}
 use Rattle.records.specs.declared.Head.the-variants as head
-use Rattle.records.specs.Records.{constructAs, headOf}
-use Rattle.reader.specs.declared.Parsed.{Parsed}
-use Rattle.reader.specs.declared.Parsed.the-variants.{Plain, Done, Refused}
-use Rattle.reader.specs.declared.Tally.{Tally}
+use Rattle.records.specs.declared.Found.{Found}
+use Rattle.records.specs.declared.Found.the-variants as found
+use Rattle.records.specs.Records.{constructAs, headOf, foundOf}
 use Rattle.reader.specs.declared.Bounds.{Bounds}
 use Rattle.reader.specs.declared.Progress.{Progress}
 use Rattle.reader.specs.declared.Report.{Report}
 use Rattle.reader.specs.declared.Answer.the-variants as answer
-use Rattle.reader.specs.Tallies.{chargesOf, noTally, withOf, keptOf, share, closeOf, heaviest, heaviestSum, Counts}
+use Rattle.reader.specs.Tallies.{valueCap, asideIs, Parsed, Done, Refused, share, Tally, noTally, chargesOf, withOf, keptOf, closeOf}
 use Rattle.reader.specs.Ways.{waysOf, wayOf}
 
 -- the record at a cursor, judged
@@ -33,7 +31,6 @@ onHead (head.Good r) g f = f r
 
 -- value, over, added, mark and next of what was read
 abbrev pub onParsed : {A : Type 0} → Parsed → (ℕ → ℕ → A) → (ℕ → ℕ → ℕ → ℕ → Cursor → A) → A
-onParsed (Plain v next) g f = f v 0 0 0 next
 onParsed (Done p) g f = f (p .value) (p .over) (p .added) (p .mark) (p .next)
 onParsed (Refused number place) g f = g number place
 
@@ -72,35 +69,34 @@ listOf read o (suc n) i c t marks =
     onParsed (childOf read o i (length marks) c) Refused (λ value over added mark next.
     listOf read o n (i + 1) next (withOf (o .kind) (o .first) i t value over added mark) (keptOf (o .kind) i value mark marks))
 
--- a record that owns nothing: a primitive, a call, a marker, or an empty sequence
-unfoldable pub aloneOf : List ℕ → Read → Parsed
-aloneOf bounds r =
-    pick (eqb (r .kind) 2) (Plain (r .first) (r .next))
-    (pick (eqb (r .kind) 8) (Plain (getD bounds (r .first - 1) 0) (r .next))
-    (pick (eqb (r .kind) 9) (Done (share (r .second) 0 0 (r .first + 1) (r .next)))
-    (Plain 0 (r .next))))
+abbrev pub listFrom : ChildReader → Owner → ℕ → Cursor → Parsed  -- all n children
+listFrom read o n c = listOf read o n 0 c noTally []
 
--- a good record, and what it owns
-abbrev pub startsList : ℕ → Bool
-startsList kind = pick (eqb kind 2) false (pick (eqb kind 8) false (not (eqb kind 9)))
+-- a record that was found, at its start, and what it owns
+unfoldable pub ownedOf : ChildReader → List ℕ → ℕ → ℕ → ℕ → Found → Parsed
+ownedOf read bounds start standing product (found.Primitive cost next) = Done (share cost 0 0 0 next)
+ownedOf read bounds start standing product (found.Sequence n next) = listFrom read (ownerOf 3 n 0 start standing product) n next
+ownedOf read bounds start standing product (found.Alternative n next) = listFrom read (ownerOf 4 n 0 start standing product) (n + 1) next
+ownedOf read bounds start standing product (found.HeadLoop count scope next) = listFrom read (ownerOf 5 count scope start standing product) 4 next
+ownedOf read bounds start standing product (found.TailLoop count scope next) = listFrom read (ownerOf 6 count scope start standing product) 3 next
+ownedOf read bounds start standing product (found.TimedLoop time next) = listFrom read (ownerOf 7 time 0 start standing product) 1 next
+ownedOf read bounds start standing product (found.Call number next) = Done (share (getD bounds (number - 1) 0) 0 0 0 next)
+ownedOf read bounds start standing product (found.Marker limit cost next) = Done (share cost 0 0 (limit + 1) next)
+ownedOf read bounds start standing product (found.Refused number place) = Refused number place
 
-unfoldable pub ownedOf : ChildReader → List ℕ → ℕ → ℕ → ℕ → Read → Parsed
-ownedOf read bounds start standing product r =
-    pick (startsList (r .kind))
-    (listOf read (ownerOf (r .kind) (r .first) (r .second) start standing product) (r .children) 0 (r .next) noTally [])
-    (aloneOf bounds r)
+-- the construct at a cursor, with so many depths left; where none is left, no record is found
+abbrev pub foundAt : List ℕ → ℕ → ℕ → ℕ → Cursor → Found
+foundAt s own left standing c = foundOf (recordOf s (constructAs own left standing) c)
 
--- the construct at a cursor, with so many depths left
 unfoldable pub constructOf : ℕ → List ℕ → List ℕ → ℕ → ChildReader
-constructOf zero s bounds own standing product c = onHead (recordOf s (constructAs own 0 standing) c) Refused (λ r. Refused 8 (c .at))
+constructOf zero s bounds own standing product c = ownedOf (λ _ _ d. Refused 8 (d .at)) bounds (c .at) standing product (foundAt s own 0 standing c)
 constructOf (suc left) s bounds own standing product c =
-    onHead (recordOf s (constructAs own (suc left) standing) c) Refused (ownedOf (constructOf left s bounds own) bounds (c .at) standing product)
+    ownedOf (constructOf left s bounds own) bounds (c .at) standing product (foundAt s own (suc left) standing c)
 
 -- a routine, whose organisation and body add up as the time and the statement of a timed loop
 unfoldable pub routineOf : List ℕ → List ℕ → ℕ → Cursor → Parsed
 routineOf s bounds own c =
-    onHead (recordOf s routine c) Refused (λ r.
-    listOf (constructOf 24 s bounds own) (ownerOf 7 (r .first) 0 (c .at) 0 0) 1 0 (r .next) noTally [])
+    onHead (recordOf s routine c) Refused (λ r. listFrom (constructOf 24 s bounds own) (ownerOf 7 (r .first) 0 (c .at) 0 0) 1 (r .next))
 
 -- no bounds yet; one more
 unfoldable pub noBounds : Bounds
@@ -151,22 +147,26 @@ sheetOf s number =
 unfoldable pub readOf : List ℕ → ℕ → Report
 readOf s number = pick (ltb 60000 (length s)) (refusal (length s) 2 0 noBounds) (sheetOf s number)
 
--- What the readers are lent: the bounds of earlier routines, and room for the marked branches; at least 8 bytes stand for each that is held.
-pub record Lent (s bounds marks : List ℕ) (own product held at : ℕ) : Type 0 where
+-- What the readers are lent: the bounds of earlier routines, room for the marked branches, at least 8 bytes for each that is held, and
+-- what is told aside so far.
+pub record Lent (s bounds marks aside : List ℕ) (own product held at : ℕ) : Type 0 where
   pub small : (i : ℕ) → getD bounds i 0 ≤ valueLimit
   pub few : own ≤ 64
   pub passes : product ≤ 1000000
   pub room : length s ≤ 8 * length marks
   pub kept : 8 * held ≤ at
+  pub three : length aside ≡ 3
+  pub added : asideIs aside .added ≤ valueCap
 
--- a record that owns n constructs
-pub record Owns (kind first n : ℕ) : Type 0 where
-  pub counts : Counts kind first
-  pub cost : first ≤ 4294967295
-  pub few : n ≤ 1001
-  pub sum : n * heaviest kind ≤ heaviestSum
+-- what is lent where a construct is read at once
+pub record LentOnce (s bounds aside : List ℕ) (own at : ℕ) : Type 0 where
+  pub small : (i : ℕ) → getD bounds i 0 ≤ valueLimit
+  pub few : own ≤ 64
+  pub inside : at ≤ length s
+  pub three : length aside ≡ 3
+  pub added : asideIs aside .added ≤ valueCap
 
--- a record that owns nothing: a routine that it calls has a bound, and a limit + 1 fits
-pub record Alone (r : Read) : Type 0 where
-  pub called : r .kind ≡ 8 → (1 ≤ r .first) × (r .first ≤ 64)
-  pub marked : r .kind ≡ 9 → r .first ≤ 1000000
+-- a list of constructs starts past the record that owns it, in the sheet
+pub record Within (s : List ℕ) (start at : ℕ) : Type 0 where
+  pub past : start + 8 ≤ at
+  pub inside : at ≤ length s

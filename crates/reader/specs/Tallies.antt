@@ -5,13 +5,14 @@ use mathlib.Core.Path.{_≡_}
 use mathlib.Core.Bool.{Bool, true, false, not}
 use mathlib.Core.List.{List, [], _∷_, _++_}
 use lib.Dec.{ltb, eqb}
+use lib.ListN.{getD}
 use Rattle.meaning.specs.Answer.{valueLimit}
 use Rattle.meaning.specs.Format.{pick}
 use Rattle.records.specs.declared.Cursor.{Cursor}
-use Rattle.reader.specs.declared.Share.{Share}
-use Rattle.reader.specs.declared.Parsed.{Parsed}
-use Rattle.reader.specs.declared.Parsed.the-variants.{Plain, Done, Refused}
-use Rattle.reader.specs.declared.Tally.{Tally}
+use Rattle.reader.specs.declared.Parsed as code
+use Rattle.reader.specs.declared.Parsed.the-variants as parsed
+use Rattle.reader.specs.declared.Quick.{Quick}
+use Rattle.reader.specs.declared.Quick.the-variants as quick
 
 -- just over the limit of a value
 abbrev pub valueCap : ℕ
@@ -39,6 +40,30 @@ counted kind count i v =
 abbrev pub isBranch : ℕ → ℕ → Bool
 isBranch kind i = pick (eqb kind 4) (not (eqb i 0)) false
 
+-- What an ended construct tells the record that owns it. over: where the first record ended with too large a value, 0 for none.
+-- added: what its markers add to a scope around it. mark: 0, or the limit + 1 of a marker or of a marked branch.
+pub record Share : Type 0 where
+  pub value : ℕ
+  pub over : ℕ
+  pub added : ℕ
+  pub mark : ℕ
+  pub next : Cursor
+
+pub data Parsed : Type 0 where
+  Done : Share → Parsed
+  Refused : ℕ → ℕ → Parsed
+
+abbrev pub share : ℕ → ℕ → ℕ → ℕ → Cursor → Share
+share value over added mark next = record { value = value; over = over; added = added; mark = mark; next = next }
+
+-- What the children read so far come to. top: the largest plain branch.
+pub record Tally : Type 0 where
+  pub sum : ℕ
+  pub top : ℕ
+  pub added : ℕ
+  pub mark : ℕ
+  pub over : ℕ
+
 abbrev pub noTally : Tally
 noTally = record { sum = 0; top = 0; added = 0; mark = 0; over = 0 }
 
@@ -56,17 +81,15 @@ withOf kind count i t value over added mark = record {
 unfoldable pub keptOf : ℕ → ℕ → ℕ → ℕ → List ℕ → List ℕ
 keptOf kind i value mark marks = pick (eqb mark 0) marks (pick (isBranch kind i) (marks ++ ((value * 1048576 + (mark - 1)) ∷ [])) marks)
 
--- a record ends
-abbrev pub share : ℕ → ℕ → ℕ → ℕ → Cursor → Share
-share value over added mark next = record { value = value; over = over; added = added; mark = mark; next = next }
+-- a record ends: a value that is too large counts for nothing, and is told if it is the first
+abbrev pub valueTold : ℕ → ℕ
+valueTold value = pick (ltb valueLimit value) 0 value
+
+abbrev pub overTold : ℕ → ℕ → ℕ → ℕ
+overTold over value start = pick (eqb over 0) (pick (ltb valueLimit value) start 0) over
 
 unfoldable pub endedOf : ℕ → ℕ → ℕ → ℕ → ℕ → Cursor → Parsed
-endedOf value over added mark start next =
-    pick (eqb over 0)
-    (pick (ltb valueLimit value) (Done (share 0 start added mark next))
-    (pick (pick (eqb added 0) (eqb mark 0) false) (Plain value next)
-    (Done (share value 0 added mark next))))
-    (Done (share 0 over added mark next))
+endedOf value over added mark start next = Done (share (valueTold value) (overTold over value start) added mark next)
 
 -- its value, and what its markers add: to itself, if it is a scope
 abbrev pub valueOf : ℕ → ℕ → Tally → ℕ
@@ -77,6 +100,32 @@ closeOf kind first second t more start next =
     pick (eqb second 1)
     (endedOf (valueOf kind first t + min valueCap (t .added + more)) (t .over) 0 (t .mark) start next)
     (endedOf (valueOf kind first t) (t .over) (min valueCap (t .added + more)) (t .mark) start next)
+
+-- the largest plain branch of an alternative, with child i
+abbrev pub toppedOf : ℕ → ℕ → ℕ → ℕ → ℕ
+toppedOf top i v mark = pick (eqb i 0) top (pick (eqb mark 0) (max top v) top)
+
+-- What is told aside, which the code keeps in three places: nothing; one construct more; a record that ends.
+pub record Aside : Type 0 where
+  pub over : ℕ
+  pub added : ℕ
+  pub mark : ℕ
+
+abbrev pub asideIs : List ℕ → Aside
+asideIs xs = record { over = getD xs 0 0; added = getD xs 1 0; mark = getD xs 2 0 }
+
+abbrev pub noAside : Aside
+noAside = record { over = 0; added = 0; mark = 0 }
+
+abbrev pub asideOf : Aside → ℕ → ℕ → ℕ → Aside
+asideOf a over added mark = record {
+  over = pick (eqb (a .over) 0) over (a .over);
+  added = min valueCap (a .added + added);
+  mark = pick (eqb mark 0) (a .mark) mark;
+}
+
+abbrev pub asideTold : Aside → ℕ → ℕ → Aside
+asideTold a value start = record { over = pick (ltb valueLimit value) (pick (eqb (a .over) 0) start (a .over)) (a .over); added = a .added; mark = a .mark }
 
 -- The ranges that keep every sum in 64 bits.
 -- the most that a child adds; the most that all add
@@ -96,14 +145,27 @@ pub record Held (kind i : ℕ) (t : Tally) : Type 0 where
   pub mark : t .mark ≤ 1000001
 
 -- what is told of a construct from a place on, in a sheet of so many bytes
-pub record Told (long at v e m : ℕ) (next : Cursor) : Type 0 where
-  pub value : v ≤ valueLimit
-  pub added : e ≤ valueCap
-  pub mark : m ≤ 1000001
-  pub past : at + 8 ≤ next .at
-  pub inside : next .at ≤ long
+pub record Told (long at : ℕ) (p : Share) : Type 0 where
+  pub value : p .value ≤ valueLimit
+  pub added : p .added ≤ valueCap
+  pub mark : p .mark ≤ 1000001
+  pub past : at + 8 ≤ p .next .at
+  pub inside : p .next .at ≤ long
 
-abbrev pub Tells : ℕ → ℕ → Parsed → Type 0
-Tells long at (Plain v next) = Told long at v 0 0 next
-Tells long at (Done p) = Told long at (p .value) (p .added) (p .mark) (p .next)
-Tells long at (Refused number place) = Unit {0}
+-- How a construct is read, with what is told aside before and after: its value and the cursor past it are returned, the rest is told aside;
+-- or its refusal is returned.
+pub record Valued (long at : ℕ) (a : Aside) (x : Parsed) (r : code.Parsed) (b : Aside) : Type 0 where
+  pub told : Share
+  pub is : x ≡ Done told
+  pub returned : r ≡ parsed.Value (told .value) (told .next)
+  pub aside : b ≡ asideOf a (told .over) (told .added) (told .mark)
+  pub fine : Told long at told
+
+pub data Tells (long at : ℕ) (a : Aside) (x : Parsed) (r : code.Parsed) (b : Aside) : Type 0 where
+  a-value : Valued long at a x r b → Tells long at a x r b
+  a-refusal : {number place : ℕ} → x ≡ Refused number place → r ≡ parsed.Refused number place → Tells long at a x r b
+
+-- the same where it is read at once, whatever its passes are; any other is left as it is
+pub data Quickly (long at : ℕ) (a : Aside) (x : ℕ → Parsed) (r : Quick) (b : Aside) : Type 0 where
+  at-once : {v : ℕ} {next : Cursor} → r ≡ quick.Value v next → ((product : ℕ) → Valued long at a (x product) (parsed.Value v next) b) → Quickly long at a x r b
+  not-read : r ≡ quick.Other → b ≡ a → Quickly long at a x r b

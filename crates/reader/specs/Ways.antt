@@ -3,7 +3,15 @@
 use Prim.Native.Nat.{ℕ, _+_, _*_, min}
 use lib.Dec.{eqb}
 use Rattle.meaning.specs.Format.{pick}
-use Rattle.reader.specs.declared.Ways.{Ways}
+
+-- The first child, the third, the others; the last branch where all others are marked stands as 4.
+-- branches: how many an alternative in a scope has, 0 for any other record. inner: the passes that the counts allow.
+pub record Ways : Type 0 where
+  pub lead : ℕ
+  pub third : ℕ
+  pub others : ℕ
+  pub branches : ℕ
+  pub inner : ℕ
 
 unfoldable pub leadOf : ℕ → ℕ
 leadOf standing = pick (eqb standing 3) 5 (pick (eqb standing 4) 6 (min 2 standing))

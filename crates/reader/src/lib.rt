@@ -1,18 +1,17 @@
 // Reads a sheet once: its routines and their constructs, with the value of each as it ends.
 use records::Cursor;
+use records::Found;
 use records::Head;
-use records::Read;
+use records::Leaf;
 ghost use mathlib.Core.Path.{_≡_};
 ghost use Prim.Native.Nat.{_+_, _*_, _≤_, _<_, min, max};
-ghost use mathlib.Core.List.{[]};
 ghost use lib.ListN.{length, take};
 ghost use Rattle.meaning.specs.Format.{pick};
 ghost use Rattle.meaning.specs.Answer.{valueLimit};
-ghost use Rattle.reader.specs.Tallies.{valueCap, chargeOf, chargesOf, counted, isBranch, noTally, withOf, keptOf, share, endedOf, closeOf};
-ghost use Rattle.reader.specs.Tallies.{heaviest, heaviestSum, Counts, Held, Tells};
-ghost use Rattle.reader.specs.Ways.{leadOf, bodyOf, innerOf, ways, waysOf, wayOf};
-ghost use Rattle.reader.specs.Reader.{aloneOf, Alone, listOf, constructOf, routineOf, noBounds, progressFrom, progressWith, refusal, verdictOf, routinesOf, sheetOf, readOf};
-ghost use Rattle.reader.specs.Reader.{Lent, Owns, ownerOf};
+ghost use Rattle.reader.specs.Tallies.{valueCap, chargeOf, chargesOf, counted, heaviest, Counts, valueTold, asideTold, Tells, Quickly, keptOf, toppedOf, asideIs, noAside};
+ghost use Rattle.reader.specs.Ways.{leadOf, bodyOf, innerOf};
+ghost use Rattle.reader.specs.Reader.{listFrom, constructOf, routineOf, noBounds, progressFrom, progressWith, refusal, verdictOf, routinesOf, sheetOf, readOf};
+ghost use Rattle.reader.specs.Reader.{LentOnce, Lent, Within, ownerOf};
 
 // The most that a value may be; one more, at which what markers add is held; and the highest limit of a marker, at which passes are held.
 const VALUE_LIMIT: u64 = 1099511627775;
@@ -22,6 +21,14 @@ const VALUE_CAP: u64 = 1099511627776;
 const HIGHEST_LIMIT: u64 = 1000000;
 // Where a marked branch is kept as one number: more than the highest limit.
 const LIMIT_ROOM: u64 = 1048576;
+
+// What is told of the records read besides their values, aside, in three places: where the first one ended with too large a value, 0 for none;
+// what the markers of the scope that is being read add to it; and the limit + 1 of the marker that leads what is being read, 0 for none.
+const OVER: usize = 0;
+
+const ADDED: usize = 1;
+
+const MARK: usize = 2;
 
 // The answer: the task's bound, or a refusal's number and place.
 pub enum Answer {
@@ -44,40 +51,16 @@ pub struct Report {
     pub end: usize,
 }
 
-// What an ended construct tells the record that owns it. over: where the first record ended with too large a value, 0 for none.
-// added: what its markers add to a scope around it. mark: 0, or the limit + 1 of a marker or of a marked branch.
-pub struct Share {
-    pub value: u64,
-    pub over: usize,
-    pub added: u64,
-    pub mark: u64,
-    pub next: Cursor,
-}
-
-// Plain: a value, and nothing else to tell.
+// A construct that has ended: its value and the cursor past it; or a refusal's number and place.
 pub enum Parsed {
-    Plain(u64, Cursor),
-    Done(Share),
+    Value(u64, Cursor),
     Refused(u64, usize),
 }
 
-// How the children of a record stand to a scope (records, Records.reachOf): the first, the third, the others; the last branch where all others
-// are marked stands as 4. branches: how many an alternative in a scope has, 0 for any other record. inner: the passes that the counts allow.
-pub struct Ways {
-    pub lead: u64,
-    pub third: u64,
-    pub others: u64,
-    pub branches: u64,
-    pub inner: u64,
-}
-
-// What the children read so far come to. top: the largest plain branch.
-pub struct Tally {
-    pub sum: u64,
-    pub top: u64,
-    pub added: u64,
-    pub mark: u64,
-    pub over: usize,
+// A construct that owns nothing, read at once; any other is not read.
+pub enum Quick {
+    Value(u64, Cursor),
+    Other,
 }
 
 // What the routines read so far come to, besides their bounds.
@@ -172,69 +155,6 @@ fn inner_of(count: u64, scope: u64, product: u64) -> u64
     at_most(HIGHEST_LIMIT, product * count)
 }
 
-fn stands(lead: u64, third: u64, others: u64, branches: u64, inner: u64) -> Ways
-    ensures { λ r. ⌜ r ≡ ways lead third others branches inner ⌝ }
-{
-    Ways {
-        lead,
-        third,
-        others,
-        branches,
-        inner,
-    }
-}
-
-// How the children of a record stand.
-fn ways_of(kind: u64, first: u64, second: u64, standing: u64, product: u64) -> Ways
-    requires { ⌜ Counts kind first ⌝ }
-    requires { ⌜ product ≤ 1000000 ⌝ }
-    ensures { λ r. ⌜ (r ≡ waysOf kind first second standing product) × (r .inner ≤ 1000000) ⌝ }
-{
-    match kind {
-        3 => {
-            let others = at_most(2, standing);
-            stands(lead_of(standing), others, others, 0, product)
-        }
-        4 => {
-            if standing == 0 {
-                return stands(0, 0, 0, 0, product);
-            }
-            stands(0, 3, 3, first, product)
-        }
-        5 => stands(
-            0,
-            body_of(second, standing),
-            0,
-            0,
-            inner_of(first, second, product),
-        ),
-        6 => stands(
-            body_of(second, standing),
-            0,
-            0,
-            0,
-            inner_of(first, second, product),
-        ),
-        _ => stands(0, 0, 0, 0, 0),
-    }
-}
-
-impl Ways {
-    // How child i stands, where so many branches before it are marked: fewer than 2^61, since 8 bytes stand for each.
-    fn of(self, i: u64, marked: u64) -> u64
-        requires { ⌜ marked < 2305843009213693952 ⌝ }
-        ensures { λ r. ⌜ r ≡ wayOf self i marked ⌝ }
-    {
-        if i == 0 {
-            return self.lead;
-        }
-        if marked + 1 == self.branches {
-            return 4;
-        }
-        if i == 2 { self.third } else { self.others }
-    }
-}
-
 // What child i adds to its owner's value: a head loop's condition runs once more than its body, a tail loop's as often.
 fn counted(kind: u64, count: u64, i: u64, v: u64) -> u64
     requires { ⌜ Counts kind count ⌝ }
@@ -255,161 +175,80 @@ fn counted(kind: u64, count: u64, i: u64, v: u64) -> u64
     }
 }
 
-// Whether child i is a branch.
-fn is_branch(kind: u64, i: u64) -> bool
-    ensures { λ r. ⌜ r ≡ isBranch kind i ⌝ }
+// The largest plain branch, with child i of an alternative; a marked one is none, nor is the condition.
+fn topped(top: u64, i: u64, v: u64, mark: u64) -> u64
+    ensures { λ r. ⌜ r ≡ toppedOf top i v mark ⌝ }
 {
-    kind == 4 && i != 0
+    if i == 0 {
+        return top;
+    }
+    if mark == 0 { larger(top, v) } else { top }
 }
 
-impl Tally {
-    fn none() -> Tally
-        ensures { λ r. ⌜ r ≡ noTally ⌝ }
-    {
-        Tally {
-            sum: 0,
-            top: 0,
-            added: 0,
-            mark: 0,
-            over: 0,
-        }
-    }
-
-    // One child more, with a value and nothing else to tell.
-    fn plus(self, kind: u64, count: u64, i: u64, v: u64) -> Tally
-        requires { ⌜ Counts kind count ⌝ }
-        requires { ⌜ Held kind i self ⌝ }
-        requires { ⌜ (i + 1) * heaviest kind ≤ heaviestSum ⌝ }
-        requires { ⌜ v ≤ valueLimit ⌝ }
-        ensures { λ r. ⌜ r ≡ withOf kind count i self v 0 0 0 ⌝ }
-        ensures { λ r. ⌜ Held kind (i + 1) r ⌝ }
-    {
-        let mut t = self;
-        // Most children stand in sequences.
-        if kind == 3 {
-            t.sum = t.sum + v;
-            return t;
-        }
-        if is_branch(kind, i) {
-            t.top = larger(t.top, v);
-            return t;
-        }
-        t.sum = t.sum + counted(kind, count, i, v);
-        t
-    }
-
-    // One child more. A marked branch is kept for the end of its alternative.
-    fn with(self, kind: u64, count: u64, i: u64, p: Share) -> Tally
-        requires { ⌜ Counts kind count ⌝ }
-        requires { ⌜ Held kind i self ⌝ }
-        requires { ⌜ (i + 1) * heaviest kind ≤ heaviestSum ⌝ }
-        requires { ⌜ (p .value ≤ valueLimit) × (p .added ≤ valueCap) × (p .mark ≤ 1000001) ⌝ }
-        ensures { λ r. ⌜ r ≡ withOf kind count i self (p .value) (p .over) (p .added) (p .mark) ⌝ }
-        ensures { λ r. ⌜ Held kind (i + 1) r ⌝ }
-    {
-        let mut t = self;
-        t.over = choose_place(t.over == 0, p.over, t.over);
-        t.added = at_most(VALUE_CAP, t.added + p.added);
-        if is_branch(kind, i) {
-            t.top = choose(p.mark == 0, larger(t.top, p.value), t.top);
-            return t;
-        }
-        t.mark = choose(p.mark == 0, t.mark, p.mark);
-        t.sum = t.sum + counted(kind, count, i, p.value);
-        t
-    }
-}
-
-// A marked branch kept after those that are held: its value and its limit. The number then held.
-fn keep(marks: &mut [u64], held: usize, kind: u64, i: u64, p: Share) -> usize
-    requires { ⌜ (held < length (now marks)) × (p .value ≤ valueLimit) × (p .mark ≤ 1000001) ⌝ }
-    ensures { λ r. ⌜ r ≡ length (keptOf kind i (p .value) (p .mark) (take held (now (marks .entry)))) ⌝ }
-    ensures { λ r. ⌜ take r (now (marks .exit)) ≡ keptOf kind i (p .value) (p .mark) (take held (now (marks .entry))) ⌝ }
-    ensures { λ r. ⌜ length (now (marks .exit)) ≡ length (now (marks .entry)) ⌝ }
+// Child i of an alternative, if it is a marked branch, kept after those that are held: its value and its limit. The number then held.
+fn keep(marks: &mut [u64], held: usize, i: u64, v: u64, mark: u64) -> usize
+    requires { ⌜ (held < length (now marks)) × (v ≤ valueLimit) × (1 ≤ i → mark ≤ 1000001) ⌝ }
+    ensures { λ r. ⌜ r ≡ length (keptOf 4 i v mark (take held (now (marks .entry)))) ⌝ }
+    ensures { λ r. ⌜ take r (now (marks .exit)) ≡ keptOf 4 i v mark (take held (now (marks .entry))) ⌝ }
+    ensures { λ _. ⌜ length (now (marks .exit)) ≡ length (now (marks .entry)) ⌝ }
 {
-    if p.mark == 0 {
+    if mark == 0 {
         return held;
     }
-    if is_branch(kind, i) {
-        marks[held] = p.value * LIMIT_ROOM + (p.mark - 1);
-        return held + 1;
+    if i == 0 {
+        return held;
     }
-    held
+    marks[held] = v * LIMIT_ROOM + (mark - 1);
+    held + 1
 }
 
-fn done(value: u64, over: usize, added: u64, mark: u64, next: Cursor) -> Parsed
-    ensures { λ r. ⌜ r ≡ Parsed.Done (share value over added mark next) ⌝ }
+fn nothing_told() -> [u64; 3]
+    ensures { λ r. ⌜ (asideIs r ≡ noAside) × (length r ≡ 3) ⌝ }
 {
-    Parsed::Done(Share {
-        value,
-        over,
-        added,
-        mark,
-        next,
-    })
+    [0u64; 3]
 }
 
-// A record ends with a value, unless a record before it has ended with too large a one.
-fn ended(value: u64, over: usize, added: u64, mark: u64, start: usize, next: Cursor) -> Parsed
-    ensures { λ r. ⌜ r ≡ endedOf value over added mark start next ⌝ }
+// A construct that owns nothing. Most constructs do, so they are tried first, where their owner's list is read.
+fn at_once(
+    s: &[u8],
+    c: Cursor,
+    bounds: &[u64; 64],
+    own: u64,
+    left: u64,
+    aside: &mut [u64; 3],
+    standing: u64,
+) -> Quick
+    requires { ⌜ LentOnce (now s) (now bounds) (now aside) own (c .at) ⌝ }
+    ensures { λ r. ⌜ Quickly (length (now (s .entry))) (c .at) (asideIs (now (aside .entry))) (λ product. constructOf left (now (s .entry)) (now (bounds .entry)) own standing product c) r (asideIs (now (aside .exit))) ⌝ }
+    ensures { λ _. ⌜ length (now (aside .exit)) ≡ 3 ⌝ }
 {
-    if over != 0 {
-        return done(0, over, added, mark, next);
-    }
-    if VALUE_LIMIT < value {
-        return done(0, start, added, mark, next);
-    }
-    if added != 0 {
-        return done(value, 0, added, mark, next);
-    }
-    if mark != 0 {
-        return done(value, 0, added, mark, next);
-    }
-    Parsed::Plain(value, next)
-}
-
-// A record ends when its last child has ended. A scope pays what its markers add; any other record hands it on.
-fn close(
-    kind: u64,
-    first: u64,
-    second: u64,
-    t: Tally,
-    more: u64,
-    start: usize,
-    next: Cursor,
-) -> Parsed
-    requires { ⌜ (t .sum ≤ heaviestSum) × (t .top ≤ valueLimit) × (t .added ≤ valueCap) ⌝ }
-    requires { ⌜ (first ≤ 4294967295) × (more ≤ valueCap) ⌝ }
-    ensures { λ r. ⌜ r ≡ closeOf kind first second t more start next ⌝ }
-{
-    let added = at_most(VALUE_CAP, t.added + more);
-    let value = t.sum + t.top + choose(kind == 7, first, 0);
-    if second == 1 {
-        return ended(value + added, t.over, 0, t.mark, start, next);
-    }
-    ended(value, t.over, added, t.mark, start, next)
-}
-
-// A record that owns nothing starts no list: a primitive, a call, a marker, or an empty sequence.
-fn alone(r: Read, bounds: &[u64; 64]) -> Parsed
-    requires { ⌜ Alone r ⌝ }
-    ensures { λ p. ⌜ p ≡ aloneOf (now (bounds .entry)) r ⌝ }
-{
-    let kind = r.kind;
-    let next = r.next;
-    match kind {
-        2 => Parsed::Plain(r.first, next),
-        8 => {
-            let called = (r.first - 1) as usize;
+    match c.leaf(s, own, left, standing) {
+        Leaf::Primitive(cost, next) => Quick::Value(cost, next),
+        Leaf::Call(number, next) => {
+            let called = (number - 1) as usize;
             let bound = bounds[called];
-            Parsed::Plain(bound, next)
+            Quick::Value(bound, next)
         }
-        9 => {
-            let mark = r.first + 1;
-            done(r.second, 0, 0, mark, next)
+        Leaf::Marker(limit, cost, next) => {
+            aside[MARK] = limit + 1;
+            Quick::Value(cost, next)
         }
-        _ => Parsed::Plain(0, next),
+        Leaf::Other => Quick::Other,
     }
+}
+
+// A record ends with a value; the first that is too large is told.
+fn ended(value: u64, aside: &mut [u64; 3], start: usize, next: Cursor) -> Parsed
+    requires { ⌜ length (now aside) ≡ 3 ⌝ }
+    ensures { λ r. ⌜ r ≡ Parsed.Value (valueTold value) next ⌝ }
+    ensures { λ _. ⌜ asideIs (now (aside .exit)) ≡ asideTold (asideIs (now (aside .entry))) value start ⌝ }
+    ensures { λ _. ⌜ length (now (aside .exit)) ≡ 3 ⌝ }
+{
+    if VALUE_LIMIT < value {
+        aside[OVER] = choose(aside[OVER] == 0, start as u64, aside[OVER]);
+        return Parsed::Value(0, next);
+    }
+    Parsed::Value(value, next)
 }
 
 // One construct, with the list that it owns. marks keeps the marked branches of the alternatives that are open, so many of them.
@@ -421,127 +260,335 @@ fn construct(
     left: u64,
     marks: &mut [u64],
     held: usize,
+    aside: &mut [u64; 3],
     standing: u64,
     product: u64,
 ) -> Parsed
-    requires { ⌜ Lent (now s) (now bounds) (now marks) own product held (c .at) ⌝ }
-    ensures { λ r. ⌜ r ≡ constructOf left (now (s .entry)) (now (bounds .entry)) own standing product c ⌝ }
-    ensures { λ r. ⌜ Tells (length (now (s .entry))) (c .at) r ⌝ }
-    ensures { λ r. ⌜ take held (now (marks .exit)) ≡ take held (now (marks .entry)) ⌝ }
-    ensures { λ r. ⌜ length (now (marks .exit)) ≡ length (now (marks .entry)) ⌝ }
+    requires { ⌜ Lent (now s) (now bounds) (now marks) (now aside) own product held (c .at) ⌝ }
+    ensures { λ r. ⌜ Tells (length (now (s .entry))) (c .at) (asideIs (now (aside .entry))) (constructOf left (now (s .entry)) (now (bounds .entry)) own standing product c) r (asideIs (now (aside .exit))) ⌝ }
+    ensures { λ _. ⌜ take held (now (marks .exit)) ≡ take held (now (marks .entry)) ⌝ }
+    ensures { λ _. ⌜ length (now (marks .exit)) ≡ length (now (marks .entry)) ⌝ }
+    ensures { λ _. ⌜ length (now (aside .exit)) ≡ 3 ⌝ }
 {
     let start = c.at;
     match c.construct(s, own, left, standing) {
-        Head::Refused(number, place) => Parsed::Refused(number, place),
-        Head::Good(r) => {
-            if r.children == 0 {
-                return alone(r, bounds);
-            }
-            let next = r.next;
-            list(
-                s,
-                next,
-                start,
-                r.kind,
-                r.first,
-                r.second,
-                r.children,
-                bounds,
-                own,
-                left - 1,
-                marks,
-                held,
-                standing,
-                product,
-            )
+        Found::Refused(number, place) => Parsed::Refused(number, place),
+        Found::Primitive(cost, next) => Parsed::Value(cost, next),
+        Found::Sequence(n, next) => sequence(s, next, start, n, bounds, own, left - 1, marks, held, aside, standing, product),
+        Found::Alternative(n, next) => alternative(s, next, start, n, bounds, own, left - 1, marks, held, aside, standing, product),
+        Found::HeadLoop(count, scope, next) => head_loop(s, next, start, count, scope, bounds, own, left - 1, marks, held, aside, standing, product),
+        Found::TailLoop(count, scope, next) => tail_loop(s, next, start, count, scope, bounds, own, left - 1, marks, held, aside, standing, product),
+        Found::TimedLoop(time, next) => timed_loop(s, next, start, time, bounds, own, left - 1, marks, held, aside, standing, product),
+        Found::Call(number, next) => {
+            let called = (number - 1) as usize;
+            let bound = bounds[called];
+            Parsed::Value(bound, next)
+        }
+        Found::Marker(limit, cost, next) => {
+            aside[MARK] = limit + 1;
+            Parsed::Value(cost, next)
         }
     }
 }
 
-// The n constructs that a record owns, and the record's end.
-fn list(
+// The n constructs of a sequence, and its end. A marker may lead a branch.
+fn sequence(
     s: &[u8],
     c: Cursor,
     start: usize,
-    kind: u64,
-    first: u64,
-    second: u64,
+    n: u64,
+    bounds: &[u64; 64],
+    own: u64,
+    left: u64,
+    marks: &mut [u64],
+    held: usize,
+    aside: &mut [u64; 3],
+    standing: u64,
+    product: u64,
+) -> Parsed
+    requires { ⌜ Lent (now s) (now bounds) (now marks) (now aside) own product held (c .at) ⌝ }
+    requires { ⌜ Within (now s) start (c .at) ⌝ }
+    requires { ⌜ n ≤ 1000 ⌝ }
+    ensures { λ r. ⌜ Tells (length (now (s .entry))) (start) (asideIs (now (aside .entry))) (listFrom (constructOf left (now (s .entry)) (now (bounds .entry)) own) (ownerOf 3 n 0 start standing product) n c) r (asideIs (now (aside .exit))) ⌝ }
+    ensures { λ _. ⌜ take held (now (marks .exit)) ≡ take held (now (marks .entry)) ⌝ }
+    ensures { λ _. ⌜ length (now (marks .exit)) ≡ length (now (marks .entry)) ⌝ }
+    ensures { λ _. ⌜ length (now (aside .exit)) ≡ 3 ⌝ }
+{
+    let lead = lead_of(standing);
+    let rest = at_most(2, standing);
+    let mut sum: u64 = 0;
+    let mut at = c;
+    let mut i: u64 = 0;
+    while i < n {
+        let way = choose(i == 0, lead, rest);
+        match at_once(s, at, bounds, own, left, aside, way) {
+            Quick::Value(v, next) => {
+                sum += v;
+                at = next;
+                i += 1;
+                continue;
+            }
+            Quick::Other => {}
+        }
+        match construct(s, at, bounds, own, left, marks, held, aside, way, product) {
+            Parsed::Refused(number, place) => {
+                return Parsed::Refused(number, place);
+            }
+            Parsed::Value(v, next) => {
+                sum += v;
+                at = next;
+                i += 1;
+                continue;
+            }
+        }
+    }
+    ended(sum, aside, start, at)
+}
+
+// The condition and the n branches of an alternative, and its end. A marked branch is kept until the largest plain one is known.
+fn alternative(
+    s: &[u8],
+    c: Cursor,
+    start: usize,
     n: u64,
     bounds: &[u64; 64],
     own: u64,
     left: u64,
     marks: &mut [u64],
     base: usize,
+    aside: &mut [u64; 3],
     standing: u64,
     product: u64,
 ) -> Parsed
-    requires { ⌜ Lent (now s) (now bounds) (now marks) own product base (c .at) ⌝ }
-    requires { ⌜ Owns kind first n ⌝ }
-    requires { ⌜ (start + 8 ≤ c .at) × (c .at ≤ length (now s)) ⌝ }
-    ensures { λ r. ⌜ r ≡ listOf (constructOf left (now (s .entry)) (now (bounds .entry)) own) (ownerOf kind first second start standing product) n 0 c noTally [] ⌝ }
-    ensures { λ r. ⌜ Tells (length (now (s .entry))) start r ⌝ }
-    ensures { λ r. ⌜ take base (now (marks .exit)) ≡ take base (now (marks .entry)) ⌝ }
-    ensures { λ r. ⌜ length (now (marks .exit)) ≡ length (now (marks .entry)) ⌝ }
+    requires { ⌜ Lent (now s) (now bounds) (now marks) (now aside) own product base (c .at) ⌝ }
+    requires { ⌜ Within (now s) start (c .at) ⌝ }
+    requires { ⌜ (2 ≤ n) × (n ≤ 256) ⌝ }
+    ensures { λ r. ⌜ Tells (length (now (s .entry))) (start) (asideIs (now (aside .entry))) (listFrom (constructOf left (now (s .entry)) (now (bounds .entry)) own) (ownerOf 4 n 0 start standing product) (n + 1) c) r (asideIs (now (aside .exit))) ⌝ }
+    ensures { λ _. ⌜ take base (now (marks .exit)) ≡ take base (now (marks .entry)) ⌝ }
+    ensures { λ _. ⌜ length (now (marks .exit)) ≡ length (now (marks .entry)) ⌝ }
+    ensures { λ _. ⌜ length (now (aside .exit)) ≡ 3 ⌝ }
 {
-    let w = ways_of(kind, first, second, standing, product);
-    let mut t = Tally::none();
+    let usual = choose(standing == 0, 0, 3);
+    let last = choose(standing == 0, 0, 4);
     let mut held = base;
+    let mut mark = aside[MARK];
+    let mut sum: u64 = 0;
+    let mut top: u64 = 0;
     let mut at = c;
     let mut i: u64 = 0;
-    while i < n {
-        let way = w.of(i, (held - base) as u64);
-        match construct(s, at, bounds, own, left, marks, held, way, w.inner) {
-            Parsed::Refused(number, place) => {
-                return Parsed::Refused(number, place);
-            }
-            Parsed::Plain(v, next) => {
-                t = t.plus(kind, first, i, v);
+    while i <= n {
+        let way = choose(i == 0, 0, choose((held - base) as u64 + 1 == n, last, usual));
+        aside[MARK] = choose(i == 0, mark, 0);
+        match at_once(s, at, bounds, own, left, aside, way) {
+            Quick::Value(v, next) => {
+                let told = aside[MARK];
+                held = keep(marks, held, i, v, told);
+                top = topped(top, i, v, told);
+                sum += choose(i == 0, v, 0);
+                mark = choose(i == 0, told, mark);
                 at = next;
                 i += 1;
                 continue;
             }
-            Parsed::Done(p) => {
-                t = t.with(kind, first, i, p);
-                held = keep(marks, held, kind, i, p);
-                let next = p.next;
+            Quick::Other => {}
+        }
+        match construct(s, at, bounds, own, left, marks, held, aside, way, product) {
+            Parsed::Refused(number, place) => {
+                return Parsed::Refused(number, place);
+            }
+            Parsed::Value(v, next) => {
+                let told = aside[MARK];
+                held = keep(marks, held, i, v, told);
+                top = topped(top, i, v, told);
+                sum += choose(i == 0, v, 0);
+                mark = choose(i == 0, told, mark);
                 at = next;
                 i += 1;
                 continue;
             }
         }
     }
-    let more = charges(&marks[base..held], product, t.top);
-    close(kind, first, second, t, more, start, at)
+    aside[MARK] = mark;
+    let more = charges(&marks[base..held], product, top);
+    aside[ADDED] = at_most(VALUE_CAP, aside[ADDED] + more);
+    ended(sum + top, aside, start, at)
+}
+
+// Init, condition, body and overrun of a head loop, and its end. A scope pays what its markers add.
+fn head_loop(
+    s: &[u8],
+    c: Cursor,
+    start: usize,
+    count: u64,
+    scope: u64,
+    bounds: &[u64; 64],
+    own: u64,
+    left: u64,
+    marks: &mut [u64],
+    held: usize,
+    aside: &mut [u64; 3],
+    standing: u64,
+    product: u64,
+) -> Parsed
+    requires { ⌜ Lent (now s) (now bounds) (now marks) (now aside) own product held (c .at) ⌝ }
+    requires { ⌜ Within (now s) start (c .at) ⌝ }
+    requires { ⌜ (count ≤ 1000000) × (scope ≤ 1) ⌝ }
+    ensures { λ r. ⌜ Tells (length (now (s .entry))) (start) (asideIs (now (aside .entry))) (listFrom (constructOf left (now (s .entry)) (now (bounds .entry)) own) (ownerOf 5 count scope start standing product) 4 c) r (asideIs (now (aside .exit))) ⌝ }
+    ensures { λ _. ⌜ take held (now (marks .exit)) ≡ take held (now (marks .entry)) ⌝ }
+    ensures { λ _. ⌜ length (now (marks .exit)) ≡ length (now (marks .entry)) ⌝ }
+    ensures { λ _. ⌜ length (now (aside .exit)) ≡ 3 ⌝ }
+{
+    let body = body_of(scope, standing);
+    let inner = inner_of(count, scope, product);
+    let before = aside[ADDED];
+    aside[ADDED] = choose(scope == 1, 0, before);
+    let mut sum: u64 = 0;
+    let mut at = c;
+    let mut i: u64 = 0;
+    while i < 4 {
+        let way = choose(i == 2, body, 0);
+        match at_once(s, at, bounds, own, left, aside, way) {
+            Quick::Value(v, next) => {
+                sum += counted(5, count, i, v);
+                at = next;
+                i += 1;
+                continue;
+            }
+            Quick::Other => {}
+        }
+        match construct(s, at, bounds, own, left, marks, held, aside, way, inner) {
+            Parsed::Refused(number, place) => {
+                return Parsed::Refused(number, place);
+            }
+            Parsed::Value(v, next) => {
+                sum += counted(5, count, i, v);
+                at = next;
+                i += 1;
+                continue;
+            }
+        }
+    }
+    let paid = aside[ADDED];
+    aside[ADDED] = choose(scope == 1, before, paid);
+    ended(sum + choose(scope == 1, paid, 0), aside, start, at)
+}
+
+// Body, condition and overrun of a tail loop, and its end.
+fn tail_loop(
+    s: &[u8],
+    c: Cursor,
+    start: usize,
+    count: u64,
+    scope: u64,
+    bounds: &[u64; 64],
+    own: u64,
+    left: u64,
+    marks: &mut [u64],
+    held: usize,
+    aside: &mut [u64; 3],
+    standing: u64,
+    product: u64,
+) -> Parsed
+    requires { ⌜ Lent (now s) (now bounds) (now marks) (now aside) own product held (c .at) ⌝ }
+    requires { ⌜ Within (now s) start (c .at) ⌝ }
+    requires { ⌜ (count ≤ 1000000) × (scope ≤ 1) ⌝ }
+    ensures { λ r. ⌜ Tells (length (now (s .entry))) (start) (asideIs (now (aside .entry))) (listFrom (constructOf left (now (s .entry)) (now (bounds .entry)) own) (ownerOf 6 count scope start standing product) 3 c) r (asideIs (now (aside .exit))) ⌝ }
+    ensures { λ _. ⌜ take held (now (marks .exit)) ≡ take held (now (marks .entry)) ⌝ }
+    ensures { λ _. ⌜ length (now (marks .exit)) ≡ length (now (marks .entry)) ⌝ }
+    ensures { λ _. ⌜ length (now (aside .exit)) ≡ 3 ⌝ }
+{
+    let body = body_of(scope, standing);
+    let inner = inner_of(count, scope, product);
+    let before = aside[ADDED];
+    aside[ADDED] = choose(scope == 1, 0, before);
+    let mut sum: u64 = 0;
+    let mut at = c;
+    let mut i: u64 = 0;
+    while i < 3 {
+        let way = choose(i == 0, body, 0);
+        match at_once(s, at, bounds, own, left, aside, way) {
+            Quick::Value(v, next) => {
+                sum += counted(6, count, i, v);
+                at = next;
+                i += 1;
+                continue;
+            }
+            Quick::Other => {}
+        }
+        match construct(s, at, bounds, own, left, marks, held, aside, way, inner) {
+            Parsed::Refused(number, place) => {
+                return Parsed::Refused(number, place);
+            }
+            Parsed::Value(v, next) => {
+                sum += counted(6, count, i, v);
+                at = next;
+                i += 1;
+                continue;
+            }
+        }
+    }
+    let paid = aside[ADDED];
+    aside[ADDED] = choose(scope == 1, before, paid);
+    ended(sum + choose(scope == 1, paid, 0), aside, start, at)
+}
+
+// The timeout statement of a timed loop, and its end.
+fn timed_loop(
+    s: &[u8],
+    c: Cursor,
+    start: usize,
+    time: u64,
+    bounds: &[u64; 64],
+    own: u64,
+    left: u64,
+    marks: &mut [u64],
+    held: usize,
+    aside: &mut [u64; 3],
+    standing: u64,
+    product: u64,
+) -> Parsed
+    requires { ⌜ Lent (now s) (now bounds) (now marks) (now aside) own product held (c .at) ⌝ }
+    requires { ⌜ Within (now s) start (c .at) ⌝ }
+    requires { ⌜ time ≤ 4294967295 ⌝ }
+    ensures { λ r. ⌜ Tells (length (now (s .entry))) (start) (asideIs (now (aside .entry))) (listFrom (constructOf left (now (s .entry)) (now (bounds .entry)) own) (ownerOf 7 time 0 start standing product) 1 c) r (asideIs (now (aside .exit))) ⌝ }
+    ensures { λ _. ⌜ take held (now (marks .exit)) ≡ take held (now (marks .entry)) ⌝ }
+    ensures { λ _. ⌜ length (now (marks .exit)) ≡ length (now (marks .entry)) ⌝ }
+    ensures { λ _. ⌜ length (now (aside .exit)) ≡ 3 ⌝ }
+{
+    match at_once(s, c, bounds, own, left, aside, 0) {
+        Quick::Value(v, next) => {
+            return ended(v + time, aside, start, next);
+        }
+        Quick::Other => {}
+    }
+    match construct(s, c, bounds, own, left, marks, held, aside, 0, 0) {
+        Parsed::Refused(number, place) => Parsed::Refused(number, place),
+        Parsed::Value(v, next) => ended(v + time, aside, start, next),
+    }
 }
 
 // One routine: its organisation and its body add up as the time and the statement of a timed loop.
-fn routine(s: &[u8], c: Cursor, bounds: &[u64; 64], own: u64, marks: &mut [u64]) -> Parsed
-    requires { ⌜ Lent (now s) (now bounds) (now marks) own 0 0 (c .at) ⌝ }
-    ensures { λ r. ⌜ r ≡ routineOf (now (s .entry)) (now (bounds .entry)) own c ⌝ }
-    ensures { λ r. ⌜ Tells (length (now (s .entry))) (c .at) r ⌝ }
-    ensures { λ r. ⌜ length (now (marks .exit)) ≡ length (now (marks .entry)) ⌝ }
+fn routine(
+    s: &[u8],
+    c: Cursor,
+    bounds: &[u64; 64],
+    own: u64,
+    marks: &mut [u64],
+    aside: &mut [u64; 3],
+) -> Parsed
+    requires { ⌜ Lent (now s) (now bounds) (now marks) (now aside) own 0 0 (c .at) ⌝ }
+    ensures { λ r. ⌜ Tells (length (now (s .entry))) (c .at) (asideIs (now (aside .entry))) (routineOf (now (s .entry)) (now (bounds .entry)) own c) r (asideIs (now (aside .exit))) ⌝ }
+    ensures { λ _. ⌜ length (now (marks .exit)) ≡ length (now (marks .entry)) ⌝ }
 {
     let start = c.at;
     match c.routine(s) {
         Head::Refused(number, place) => Parsed::Refused(number, place),
         Head::Good(r) => {
-            let next = r.next;
-            list(
-                s,
-                next,
-                start,
-                7,
-                r.first,
-                0,
-                1,
-                bounds,
-                own,
-                24,
-                marks,
-                0,
-                0,
-                0,
-            )
+            let body = r.next;
+            match construct(s, body, bounds, own, 24, marks, 0, aside, 0, 0) {
+                Parsed::Refused(number, place) => Parsed::Refused(number, place),
+                Parsed::Value(v, next) => ended(v + r.first, aside, start, next),
+            }
         }
     }
 }
@@ -627,22 +674,15 @@ fn routines(s: &[u8], c: Cursor, n: u64, number: u64, marks: &mut [u64]) -> Repo
     while b.count < n {
         let own = b.count + 1;
         let at = progress.at;
-        match routine(s, at, &b.values, own, marks) {
+        let mut aside = nothing_told();
+        match routine(s, at, &b.values, own, marks, &mut aside) {
             Parsed::Refused(k, p) => {
                 return refused(s.len(), k, p, b);
             }
-            Parsed::Plain(v, next) => {
-                progress = progress.with(own, number, v, 0, next);
+            Parsed::Value(v, next) => {
+                progress = progress.with(own, number, v, aside[OVER] as usize, next);
                 let i = b.count as usize;
                 b.values[i] = v;
-                b.count = own;
-                continue;
-            }
-            Parsed::Done(p) => {
-                let next = p.next;
-                progress = progress.with(own, number, p.value, p.over, next);
-                let i = b.count as usize;
-                b.values[i] = p.value;
                 b.count = own;
                 continue;
             }

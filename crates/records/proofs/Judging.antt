@@ -12,17 +12,20 @@ use native.Mathlib.Omega.{arith}
 use borrow.Author.Tests.{eqb-true}
 use Rattle.meaning.specs.Format.{pick, Range, sheetRows, routineRows, constructRows, listed, rangesOf, lengthOf, inRanges, Record, field, of}
 use Rattle.meaning.specs.Legal.{mayMark}
-use Rattle.meaning.specs.Judgement.{Reading, found, refuse, two, four, fieldsOf, Owed, sheet, routine, rowsOf, badCall, placed, judged}
+use Rattle.meaning.specs.Judgement as judgement
+use Rattle.meaning.specs.Judgement.{Reading, refuse, two, four, fieldsOf, Owed, sheet, routine, rowsOf, badCall, placed, judged}
 use Rattle.records.specs.declared.Field.the-variants as field
 use Rattle.records.specs.declared.Fields.the-variants as fields
 use Rattle.records.specs.declared.Cursor.{Cursor}
 use Rattle.records.specs.declared.Head.{Head}
 use Rattle.records.specs.declared.Head.the-variants.{Refused}
+use Rattle.records.specs.declared.Found.{Found}
+use Rattle.records.specs.declared.Found.the-variants as found
 use Rattle.records.specs.declared.Form.{Form}
 use Rattle.records.specs.declared.Field.{Field}
 use Rattle.records.specs.declared.Fields.{Fields}
 use Rattle.records.specs.declared.Judged.{Judged}
-use Rattle.records.specs.Records.{reachOf, lastOf, constructAs, childrenOf, headOf}
+use Rattle.records.specs.Records.{reachOf, lastOf, constructAs, childrenOf, headOf, foundOf}
 use Rattle.records.specs.Steps.{fieldAt, formFor, isListed, formOf, isOutside, markerFault, isBadCall, misplaced}
 use Rattle.records.specs.Steps.{unless, toldOf, badAt, withFields, judgeOf, withOnly, onlyOf}
 use Rattle.records.proofs.Laws.{itself, left-short, fields-one, fields-both, halves}
@@ -106,10 +109,10 @@ module _ (owed : Owed) (own left standing : ℕ) (place : Placed owed own left s
   rest-law : (c : Cursor) (past : ℕ) (ranges : List Range) (x : Record) → listed (x .kind) (rowsOf owed) ≡ true →
       (let f = formFor ranges (childrenOf (x .kind) 0) (isListed (x .kind)) in
       isOutside f (field x 0) (field x 1) ≡ not (inRanges ranges (x .fields)) →
-      headOf (refuse (not (inRanges ranges (x .fields))) 6 at (placed owed x at (found x past))) ≡
+      headOf (refuse (not (inRanges ranges (x .fields))) 6 at (placed owed x at (judgement.found x past))) ≡
       toldOf (withFields c (x .kind) f own left standing (fields.All (field x 0) (field x 1) (record { at = past }))) at)
   rest-law c past ranges x h e =
-      head-refuse (not (inRanges ranges (x .fields))) 6 at _ ∙ rw (place x at (found x past) h, e, children-is (x .kind) (field x 0)) (
+      head-refuse (not (inRanges ranges (x .fields))) 6 at _ ∙ rw (place x at (judgement.found x past) h, e, children-is (x .kind) (field x 0)) (
       sym (told-pick (not (inRanges ranges (x .fields))) 6 at c _ refl))
 
   -- the length is tested, and then whether the fields are there
@@ -130,7 +133,7 @@ module _ (owed : Owed) (own left standing : ℕ) (place : Placed owed own left s
       refuse (not (eqb (two rest) size)) 5 at
       (refuse (ltb (length rest) size) 3 at
       (refuse (not (inRanges ranges (x .fields))) 6 at
-      (placed owed x at (found x (at + size)))))
+      (placed owed x at (judgement.found x (at + size)))))
       ) ≡ toldOf (judgeOf s (record { at = at + 4 }) kind (two rest) (formFor ranges (childrenOf kind 0) (isListed kind)) own left standing) at)
   unfolding judgeOf fieldsOf isOutside
   length-law kind [] few h = absurd few
@@ -167,28 +170,30 @@ module _ (owed : Owed) (own left standing : ℕ) (place : Placed owed own left s
       owes true h good e = e refl
       owes false h good e = refl
 
+-- what `construct` promises
+abbrev pub AsOwed : List ℕ → ℕ → ℕ → ℕ → ℕ → Found → Type 0
+AsOwed s own left standing at f = f ≡ foundOf (headOf (judged s (constructAs own left standing) at))
+
 -- `construct`: the record is cut, or judged in the arm of its kind, or in the last arm
 module _ (s : List ℕ) (own left standing at : ℕ) (are : (i : ℕ) → Fits w8 (getD s i 0)) where
-  abbrev pub AsOwed : Head → Type 0
-  AsOwed h = h ≡ headOf (judged s (constructAs own left standing) at)
-
-  construct-is : (f : Field) → f ≡ fieldAt s at → AsOwed (withHead s (constructAs own left standing) own left standing at f)
+  construct-is : (f : Field) → f ≡ fieldAt s at → AsOwed s own left standing at (foundOf (withHead s (constructAs own left standing) own left standing at f))
   construct-is f e =
-      ap (withHead s (constructAs own left standing) own left standing at) e
-      ∙ judged-is (constructAs own left standing) own left standing (placed-construct own left standing) s at are
+      ap (λ z. foundOf (withHead s (constructAs own left standing) own left standing at z)) e
+      ∙ ap foundOf (judged-is (constructAs own left standing) own left standing (placed-construct own left standing) s at are)
 
-  pub construct-cut : field.Cut ≡ fieldAt s at → AsOwed (Refused 3 at)
+  pub construct-cut : field.Cut ≡ fieldAt s at → AsOwed s own left standing at (found.Refused 3 at)
   construct-cut = construct-is field.Cut
 
-  module _ (head : ℕ) (c : Cursor) (e : field.Value head c ≡ fieldAt s at) (j : Judged) where
-    pub construct-arm : (kind : ℕ) → listed kind constructRows ≡ true → head / 65536 ≡ kind →
-        j ≡ judgeOf s c kind (head % 65536) (formOf kind) own left standing → AsOwed (toldOf j at)
-    construct-arm kind h k is =
-        ap (λ z. toldOf z at) (is ∙ ap (λ z. judgeOf s c z (head % 65536) (formOf z) own left standing) (sym k))
+  module _ (head : ℕ) (c : Cursor) (e : field.Value head c ≡ fieldAt s at) where
+    pub construct-arm : (kind : ℕ) → listed kind constructRows ≡ true → head / 65536 ≡ kind → {j : Judged} →
+        j ≡ judgeOf s c kind (head % 65536) (formOf kind) own left standing → {f : Found} → f ≡ foundOf (toldOf j at) → AsOwed s own left standing at f
+    construct-arm kind h k is told =
+        told
+        ∙ ap (λ z. foundOf (toldOf z at)) (is ∙ ap (λ z. judgeOf s c z (head % 65536) (formOf z) own left standing) (sym k))
         ∙ (simp (ap (λ z. listed z constructRows) k ∙ h) at (construct-is (field.Value head c) e))
 
-    pub construct-none : listed (head / 65536) constructRows ≡ false → (d : Cursor) → j ≡ badAt d 4 → AsOwed (toldOf j at)
-    construct-none h d is = ap (λ z. toldOf z at) is ∙ (simp h at (construct-is (field.Value head c) e))
+    pub construct-none : listed (head / 65536) constructRows ≡ false → AsOwed s own left standing at (found.Refused 4 at)
+    construct-none h = simp h at (construct-is (field.Value head c) e)
 
 -- `sheet` and `routine`: only one kind is owed
 only-is : (owed : Owed) → Placed owed 0 1 0 → (kind : ℕ) → ((k : ℕ) → listed k (rowsOf owed) ≡ eqb k kind) → (s : List ℕ) (at : ℕ) →

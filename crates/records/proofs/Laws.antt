@@ -12,6 +12,7 @@ use native.Mathlib.Omega.{arith}
 use borrow.Author.Tests.{ltb-true, ltb-false, lt-ltb, le-ltb}
 use Rattle.meaning.specs.Format.{pick, field}
 use Rattle.meaning.specs.Judgement.{two, four}
+use Rattle.records.specs.declared.Field.{Field}
 use Rattle.records.specs.declared.Field.the-variants as field
 use Rattle.records.specs.declared.Fields.the-variants as fields
 use Rattle.records.specs.declared.Cursor.{Cursor}
@@ -64,6 +65,21 @@ field-past s at {v} {c} = go (ltb (length (drop at s)) 4) refl
         let p : at + 4 ≡ c .at = cc in
         omega arith
 
+-- four bytes are below 2^32
+pub field-most : (s : List ℕ) (at : ℕ) → ((i : ℕ) → Fits w8 (getD s i 0)) → {v : ℕ} {c : Cursor} → field.Value v c ≡ fieldAt s at → v ≤ 4294967295
+unfolding fieldAt four two
+field-most s at are {v} {c} = go (ltb (length (drop at s)) 4)
+  where
+    go : (t : Bool) → field.Value v c ≡ pick t field.Cut (field.Value (four (drop at s)) (record { at = at + 4 })) → v ≤ 4294967295
+    go true h = let z : _≡_ {A = ℕ} 0 1 = cc in absurd (omega arith)
+    go false h =
+        let b0 = are (at + 0) in
+        let b1 = are (at + 1) in
+        let b2 = are (at + 2 + 0) in
+        let b3 = are (at + 2 + 1) in
+        let is : v ≡ four (drop at s) = cc in
+        rw is (simp (drop-drop, getD-drop) (omega arith))
+
 -- the field is there, or cut; both fields are there, or one of them is cut
 pub fields-one : (s : List ℕ) (at : ℕ) → fieldsAt s at false ≡ pick (ltb (length (drop at s)) 4) fields.Cut (fields.All (four (drop at s)) 0 (record { at = at + 4 }))
 unfolding fieldsAt fieldAt
@@ -89,6 +105,17 @@ fields-both s at = go (ltb (length (drop at s)) 4) refl
     go false e =
         let past : at + 4 + 4 ≡ at + 8 = omega arith in
         rw (left-short s at 4 4 (omega arith), past, drop-drop 4 at s) (later (ltb (length (drop at s)) 8) _ _ _)
+
+-- the first of the fields is the one that is read first
+pub fields-first : (s : List ℕ) (at : ℕ) (both : Bool) {v first second : ℕ} {c next : Cursor} → field.Value v c ≡ fieldAt s at →
+    fieldsAt s at both ≡ fields.All first second next → v ≡ first
+unfolding fieldsAt
+fields-first s at both {v} {first} {second} {c} {next} e h = go both (fieldAt s (c .at)) refl (rw (← e) at h)
+  where
+    go : (b : Bool) (f : Field) → fieldAt s (c .at) ≡ f → withFirst s b (field.Value v c) ≡ fields.All first second next → v ≡ first
+    go false f e h = cc
+    go true field.Cut e h = let z = (rw e at h) in let z : _≡_ {A = ℕ} 0 1 = cc in absurd (omega arith)
+    go true (field.Value w d) e h = let z = (rw e at h) in cc
 
 -- the head's two halves, where each byte is one
 pub halves : (s : List ℕ) (at : ℕ) → ((i : ℕ) → Fits w8 (getD s i 0)) →

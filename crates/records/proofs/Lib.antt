@@ -3,4 +3,6 @@ pub mod Laws
 pub mod Table
 pub mod Judging
 pub mod Good
+pub mod Founds
+pub mod Leaves
 pub mod Determined

@@ -6,9 +6,14 @@ use Rattle.meaning.specs.Format as format
 use Rattle.meaning.specs.Format.{pick, field}
 use Rattle.meaning.specs.Legal.{Reach}
 use Rattle.meaning.specs.Judgement as judgement
-use Rattle.meaning.specs.Judgement.{Reading, found}
+use Rattle.meaning.specs.Judgement.{Reading}
+use Rattle.records.specs.declared.Cursor.{Cursor}
 use Rattle.records.specs.declared.Head.{Head}
 use Rattle.records.specs.declared.Head.the-variants.{Good, Refused}
+use Rattle.records.specs.declared.Found.{Found}
+use Rattle.records.specs.declared.Found.the-variants as found
+use Rattle.records.specs.declared.Leaf.{Leaf}
+use Rattle.records.specs.declared.Leaf.the-variants as leaf
 
 -- How a construct stands to a scope, by number: 0 in none that its marker could belong to; 1 in a scope; 2 inside an alternative of it;
 -- 3 a branch; 4 the last branch where all others are marked; 5 and 6 first in such a branch.
@@ -40,5 +45,32 @@ childrenOf kind first =
 -- what the judgement of a record is in the code's types
 abbrev pub headOf : Reading format.Record → Head
 headOf (judgement.refused number place) = Refused number place
-headOf (found x next) =
+headOf (judgement.found x next) =
     Good (record { kind = x .kind; first = field x 0; second = field x 1; children = childrenOf (x .kind) (field x 0); next = record { at = next } })
+
+-- a good construct's record by its kind; of kinds 2 to 9 the last is the marker
+abbrev pub byKind : ℕ → ℕ → ℕ → Cursor → Found
+byKind kind first second next =
+    pick (eqb kind 2) (found.Primitive first next)
+    (pick (eqb kind 3) (found.Sequence first next)
+    (pick (eqb kind 4) (found.Alternative first next)
+    (pick (eqb kind 5) (found.HeadLoop first second next)
+    (pick (eqb kind 6) (found.TailLoop first second next)
+    (pick (eqb kind 7) (found.TimedLoop first next)
+    (pick (eqb kind 8) (found.Call first next) (found.Marker first second next)))))))
+
+abbrev pub foundOf : Head → Found
+foundOf (Refused number place) = found.Refused number place
+foundOf (Good r) = byKind (r .kind) (r .first) (r .second) (r .next)
+
+-- a record that owns nothing
+abbrev pub leafOf : Found → Leaf
+leafOf (found.Primitive cost next) = leaf.Primitive cost next
+leafOf (found.Sequence n next) = leaf.Other
+leafOf (found.Alternative n next) = leaf.Other
+leafOf (found.HeadLoop count scope next) = leaf.Other
+leafOf (found.TailLoop count scope next) = leaf.Other
+leafOf (found.TimedLoop time next) = leaf.Other
+leafOf (found.Call number next) = leaf.Call number next
+leafOf (found.Marker limit cost next) = leaf.Marker limit cost next
+leafOf (found.Refused number place) = leaf.Other

@@ -4,7 +4,7 @@ ghost use mathlib.Core.Bool.{true};
 ghost use Prim.Native.Nat.{_+_, _≤_, _<_};
 ghost use lib.ListN.{length};
 ghost use Rattle.meaning.specs.Judgement.{sheet, routine, judged};
-ghost use Rattle.records.specs.Records.{constructAs, headOf};
+ghost use Rattle.records.specs.Records.{constructAs, headOf, foundOf, leafOf};
 ghost use Rattle.records.specs.Steps.{fieldAt, fieldsAt, formOf, isOutside, isBadCall, misplaced, markerFault, childrenBy, badAt, toldOf, judgeOf, onlyOf};
 
 // The reading place, handed from one record to the next by value.
@@ -24,6 +24,27 @@ pub struct Read {
 pub enum Head {
     Good(Read),
     Refused(u64, usize),
+}
+
+// A construct's record as it is found: its fields and the cursor past it, by kind; or a refusal's number and place.
+pub enum Found {
+    Primitive(u64, Cursor),
+    Sequence(u64, Cursor),
+    Alternative(u64, Cursor),
+    HeadLoop(u64, u64, Cursor),
+    TailLoop(u64, u64, Cursor),
+    TimedLoop(u64, Cursor),
+    Call(u64, Cursor),
+    Marker(u64, u64, Cursor),
+    Refused(u64, usize),
+}
+
+// A record that owns nothing, read at once; any other record, and any that is refused, is Other.
+pub enum Leaf {
+    Primitive(u64, Cursor),
+    Call(u64, Cursor),
+    Marker(u64, u64, Cursor),
+    Other,
 }
 
 // What the table says of a kind: the length, the ranges of the fields, and how many constructs follow;
@@ -180,6 +201,28 @@ fn told(j: Judged, start: usize) -> Head
     })
 }
 
+// A judged construct as the callers see it, by its kind: where that is a constant, no test is left.
+fn by_kind(j: Judged, start: usize) -> Found
+    ensures { λ r. ⌜ r ≡ foundOf (toldOf j start) ⌝ }
+{
+    if j.fault != 0 {
+        return Found::Refused(j.fault, start);
+    }
+    let kind = j.kind;
+    let first = j.first;
+    let next = j.next;
+    match kind {
+        2 => Found::Primitive(first, next),
+        3 => Found::Sequence(first, next),
+        4 => Found::Alternative(first, next),
+        5 => Found::HeadLoop(first, j.second, next),
+        6 => Found::TailLoop(first, j.second, next),
+        7 => Found::TimedLoop(first, next),
+        8 => Found::Call(first, next),
+        _ => Found::Marker(first, j.second, next),
+    }
+}
+
 impl Cursor {
     // Four bytes, little-endian. The sheet's end is tested before each.
     fn word(self, s: &[u8]) -> Field
@@ -302,17 +345,17 @@ impl Cursor {
         self.only(s, 1, row(8, 0, 4294967295, 0, 0, 1, false))
     }
 
-    // The construct's record at the cursor, judged, with the cursor past it.
+    // The construct's record at the cursor, judged, by its kind, with the cursor past it.
     // own: its routine's number; left: the depths left; standing: how it stands to a scope (Records.reachOf).
-    pub fn construct(self, s: &[u8], own: u64, left: u64, standing: u64) -> Head
-        ensures { λ r. ⌜ r ≡ headOf (judged (now (s .entry)) (constructAs own left standing) (self .at)) ⌝ }
+    pub fn construct(self, s: &[u8], own: u64, left: u64, standing: u64) -> Found
+        ensures { λ r. ⌜ r ≡ foundOf (headOf (judged (now (s .entry)) (constructAs own left standing) (self .at))) ⌝ }
     {
         let start = self.at;
         if s.len() < start {
-            return Head::Refused(3, start);
+            return Found::Refused(3, start);
         }
         let Field::Value(head, c) = self.word(s) else {
-            return Head::Refused(3, start);
+            return Found::Refused(3, start);
         };
         let kind = head / 65536;
         let size = head % 65536;
@@ -322,17 +365,79 @@ impl Cursor {
             standing,
         };
         // kind, and in its row: length, least and most of the first field, least and most of the second, children, listed
-        let j = match kind {
-            2 => c.judge(s, 2, size, row(8, 0, 4294967295, 0, 0, 0, false), p),
-            3 => c.judge(s, 3, size, row(8, 0, 1000, 0, 0, 0, true), p),
-            4 => c.judge(s, 4, size, row(8, 2, 256, 0, 0, 1, true), p),
-            5 => c.judge(s, 5, size, row(12, 0, 1000000, 0, 1, 4, false), p),
-            6 => c.judge(s, 6, size, row(12, 1, 1000000, 0, 1, 3, false), p),
-            7 => c.judge(s, 7, size, row(8, 0, 4294967295, 0, 0, 1, false), p),
-            8 => c.judge(s, 8, size, row(8, 0, 4294967295, 0, 0, 0, false), p),
-            9 => c.judge(s, 9, size, row(12, 0, 1000000, 0, 4294967295, 0, false), p),
-            _ => self.bad(4),
+        match kind {
+            2 => by_kind(
+                c.judge(s, 2, size, row(8, 0, 4294967295, 0, 0, 0, false), p),
+                start,
+            ),
+            3 => by_kind(
+                c.judge(s, 3, size, row(8, 0, 1000, 0, 0, 0, true), p),
+                start,
+            ),
+            4 => by_kind(c.judge(s, 4, size, row(8, 2, 256, 0, 0, 1, true), p), start),
+            5 => by_kind(
+                c.judge(s, 5, size, row(12, 0, 1000000, 0, 1, 4, false), p),
+                start,
+            ),
+            6 => by_kind(
+                c.judge(s, 6, size, row(12, 1, 1000000, 0, 1, 3, false), p),
+                start,
+            ),
+            7 => by_kind(
+                c.judge(s, 7, size, row(8, 0, 4294967295, 0, 0, 1, false), p),
+                start,
+            ),
+            8 => by_kind(
+                c.judge(s, 8, size, row(8, 0, 4294967295, 0, 0, 0, false), p),
+                start,
+            ),
+            9 => by_kind(
+                c.judge(s, 9, size, row(12, 0, 1000000, 0, 4294967295, 0, false), p),
+                start,
+            ),
+            _ => Found::Refused(4, start),
+        }
+    }
+
+    // The record at the cursor where it is good and owns nothing. Its head is the length and the kind at once: 8 and 2, 8 and 8, 12 and 9.
+    pub fn leaf(self, s: &[u8], own: u64, left: u64, standing: u64) -> Leaf
+        requires { ⌜ self .at ≤ length (now s) ⌝ }
+        ensures { λ r. ⌜ r ≡ leafOf (foundOf (headOf (judged (now (s .entry)) (constructAs own left standing) (self .at)))) ⌝ }
+    {
+        let at = self.at;
+        if s.len() - at < 8 {
+            return Leaf::Other;
+        }
+        if left == 0 {
+            return Leaf::Other;
+        }
+        let Field::Value(head, c) = self.word(s) else {
+            return Leaf::Other;
         };
-        told(j, start)
+        let Field::Value(first, next) = c.word(s) else {
+            return Leaf::Other;
+        };
+        if head == 131080 {
+            return Leaf::Primitive(first, next);
+        }
+        if head == 524296 {
+            if is_bad_call(8, first, own) {
+                return Leaf::Other;
+            }
+            return Leaf::Call(first, next);
+        }
+        if head == 589836 {
+            if standing != 5 {
+                return Leaf::Other;
+            }
+            if 1000000 < first {
+                return Leaf::Other;
+            }
+            let Field::Value(second, past) = next.word(s) else {
+                return Leaf::Other;
+            };
+            return Leaf::Marker(first, second, past);
+        }
+        Leaf::Other
     }
 }

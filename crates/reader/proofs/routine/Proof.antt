@@ -1,11 +1,47 @@
--- `routine`: a refused record refuses, and a good one (records, `routine-fine`) owns its body as a list of one.
-use mathlib.Core.Path.{refl, sym, _∙_}
+-- `routine`: its body is read as the statement of a timed loop (Timed).
+use mathlib.Core.Path.{_≡_, refl, sym, _∙_}
 use native.Mathlib.Omega.{arith}
 use borrow.Author.Needs.{needs}
-use Rattle.records.proofs.Good.{routine-fine}
-use Rattle.reader.proofs.Under.{owns-body, routine-refused, routine-good}
+use Rattle.meaning.specs.Judgement.{routine}
+use Rattle.records.specs.declared.Head.the-variants as head
+use Rattle.records.proofs.Good.{RoutineFine, routine-fine}
+use Rattle.reader.specs.Tallies.{asideIs, a-refusal}
+use Rattle.reader.specs.Reader.{recordOf, constructOf, Within}
+use Rattle.reader.proofs.Tells.{told-as, told-ended, valued-small, tells-value, tells-refusal}
+use Rattle.reader.proofs.Timed.{timed-refused, timed-ends}
+use Rattle.reader.proofs.Under.{routine-refused, routine-good}
+use Rattle.records.proofs.Cursor.routine.Reads as cursor-routine
+use Rattle.reader.proofs.construct.Reads as construct
+use Rattle.reader.proofs.ended.Reads as ended
+use Rattle.reader.proofs.routine.Reads as reads
+use Rattle.reader.proofs.routine.Lts as lts
 use Rattle.reader.proofs.routine.Statement.{statement}
 use Rattle.reader.proofs.routine.Tie as tie
+
+abbrev claims : lts.Claims
+claims = (cursor-routine.Asked, cursor-routine.Learnt, construct.Asked, construct.Learnt, ended.Asked, ended.Learnt)
+
+-- a good record was read, and the body
+abbrev Good : Type 0
+Good = lts.After-known-told2 claims reads.Pre reads.Post
+
+abbrev start : Good → lts.Start claims reads.Pre reads.Post
+start c = c .before .before .before .before .before .before
+
+is-good : (c : Good) → let a = start c .args in recordOf (a .s .now) routine (a .c) ≡ head.Good (c .before .r .given .0 .0)
+is-good c = sym (c .before .before .before .routine .ensures) ∙ c .before .r .given .1
+
+fine : (c : Good) → let a = start c .args in RoutineFine (a .s .now) (a .c .at) (c .before .r .given .0 .0)
+fine c = let a = start c .args in routine-fine (a .s .now) (a .c .at) (is-good c)
+
+within : (c : Good) → let a = start c .args in Within (a .s .now) (a .c .at) (c .before .r .given .0 .0 .next .at)
+within c = record { past = fine c .past; inside = fine c .inside }
+
+abbrev Read : Type 0
+Read = lts.After-construct claims reads.Pre reads.Post
+
+abbrev good : Read → Good
+good c = c .before .before .before .before
 
 routine-requires : tie.Need-routine-requires
 routine-requires c κs = search needs
@@ -16,30 +52,63 @@ enum-known-number c = search needs
 enum-known-r : tie.Need-enum-known-r
 enum-known-r c = search needs
 
-list-requires : tie.Need-list-requires
-list-requires c κs =
-    let start = c .before .before .before .before .before .before .before .before in
-    let p = start .pre in
-    let e = sym (c .before .before .before .before .before .routine .ensures) ∙ c .before .before .before .r .given .1 in
-    let f = routine-fine (start .args .s .now) (start .args .c .at) e in
-    (record { small = p .small; few = p .few; passes = omega arith; room = p .room; kept = omega arith }, (owns-body (f .first), (f .past, f .inside)))
+construct-requires : tie.Need-construct-requires
+construct-requires c κs =
+    let p = start (c .before .before .before) .pre in
+    record { small = p .small; few = p .few; passes = omega arith; room = p .room; kept = omega arith; three = p .three; added = p .added }
+
+enum-known-number-2 : tie.Need-enum-known-number-2
+enum-known-number-2 c = search needs
+
+enum-known-v : tie.Need-enum-known-v
+enum-known-v c = search needs
+
+add-ended : tie.Need-add-ended
+add-ended c =
+    let told = c .before in
+    let read = told .before .before .before .before .before in
+    omega (arith, valued-small (tells-value (read .construct .ensures .0) (told .before .v .given .1)), fine (good read) .first)
+
+ended-requires : tie.Need-ended-requires
+ended-requires c κs = c .before .before .before .before .before .before .before .construct .ensures .1 .1 .1
 
 returns : tie.Need-returns
 returns c =
-    let a = c .before .before .before .before .before .before .args in
+    let s = c .before .before .before .before .before .before in
+    let a = s .args in
     let e = sym (c .before .before .before .routine .ensures) ∙ c .before .number .given .1 in
-    (sym (routine-refused (a .s .now) (a .bounds .now) (a .own) (a .c) e), (tt, refl))
+    (a-refusal (routine-refused (a .s .now) (a .bounds .now) (a .own) (a .c) e) refl, refl)
 
 same-length : tie.Need-same-length
-same-length c = search needs
+same-length c = c .before .before .before .before .before .construct .ensures .1 .1 .0
 
 returns-2 : tie.Need-returns-2
 returns-2 c =
-    let good = c .before .before .before .before .before .before in
-    let a = good .before .before .before .before .before .args in
-    let e = sym (good .before .before .routine .ensures) ∙ good .r .given .1 in
-    let l = c .before .before .list .ensures in
-    (rw (routine-good (a .s .now) (a .bounds .now) (a .own) (a .c) e) (l .0), (l .1 .0, l .1 .1 .1))
+    let read = c .before .before .before .before .before in
+    let s = start (good read) in
+    let a = s .args in
+    let p = s .pre in
+    let r = good read .before .r .given .0 .0 in
+    let refused = timed-refused (constructOf 24 (a .s .now) (a .bounds .now) (a .own)) (r .first) (a .c .at) 0 0 (a .s .now) (a .marks .now) 0 (r .next)
+        (asideIs (a .aside .now)) (omega arith) (within (good read)) (p .added) (p .room) (tells-refusal (read .construct .ensures .0) (c .before .number2 .given .1)) in
+    (a-refusal (routine-good (a .s .now) (a .bounds .now) (a .own) (a .c) (is-good (good read)) ∙ refused) refl, read .construct .ensures .1 .1 .0)
+
+same-length-2 : tie.Need-same-length-2
+same-length-2 c = c .before .before .before .before .before .before .before .before .construct .ensures .1 .1 .0
+
+returns-3 : tie.Need-returns-3
+returns-3 c =
+    let told = c .before .before .before in
+    let read = told .before .before .before .before .before in
+    let s = start (good read) in
+    let a = s .args in
+    let p = s .pre in
+    let r = good read .before .r .given .0 .0 in
+    let w = timed-ends (constructOf 24 (a .s .now) (a .bounds .now) (a .own)) (r .first) (a .c .at) 0 0 (a .s .now) (a .marks .now) 0 (r .next) (asideIs (a .aside .now))
+        (omega arith) (within (good read)) (p .added) (p .room) (read .construct .last .1 .1 .1 .1 .1 .0)
+        (tells-value (read .construct .ensures .0) (told .before .v .given .1)) (read .construct .ensures .1 .0) (read .construct .ensures .1 .1 .0) in
+    (told-ended (c .ended .ensures .0) (c .ended .ensures .1 .0) (told-as (routine-good (a .s .now) (a .bounds .now) (a .own) (a .c) (is-good (good read))) w),
+    read .construct .ensures .1 .1 .0)
 
 pub routine-spec : {M : Type 1} → statement M
 routine-spec =
@@ -48,7 +117,13 @@ routine-spec =
     routine-requires
     enum-known-number
     enum-known-r
-    list-requires
+    construct-requires
+    enum-known-number-2
+    enum-known-v
+    add-ended
+    ended-requires
     returns
     same-length
-    returns-2)
+    returns-2
+    same-length-2
+    returns-3)

@@ -1,0 +1,182 @@
+-- Laws of what `construct` comes to by the record that it finds: one that owns nothing, which `at_once` reads too, or one that owns a list.
+use Prim.Native.Nat.{ℕ, zero, suc, _+_, _-_, _≤_, _<_, min}
+use mathlib.Core.Path.{_≡_, refl, sym, ap, subst, _∙_}
+use mathlib.Core.List.{List, [], _∷_}
+use lib.Dec.{eqb}
+use lib.ListN.{length, getD, set, length-set}
+use native.Mathlib.Omega.{arith}
+use native.Mathlib.Numerals.{sub-one}
+use borrow.Author.Tests.{ne-eqb}
+use Rattle.meaning.specs.Format.{pick}
+use Rattle.records.specs.declared.Cursor.{Cursor}
+use Rattle.records.specs.declared.Found.{Found}
+use Rattle.records.specs.declared.Found.the-variants as found
+use Rattle.records.proofs.Founds.{Past, Ranged, ranged}
+use Rattle.reader.specs.declared.Parsed.the-variants as parsed
+use Rattle.reader.specs.Tallies.{Aside, asideIs, asideOf, valueCap, Parsed, Done, Refused, share, Told, Valued, Tells, a-value, a-refusal}
+use Rattle.reader.specs.Reader.{ChildReader, ownedOf, foundAt, constructOf, Lent, Within}
+use Rattle.reader.proofs.Tells.{aside-none}
+
+-- one of the three places is written
+three : (P : List ℕ → Type 0) → ((a b c : ℕ) → P (a ∷ b ∷ c ∷ [])) → (xs : List ℕ) → length xs ≡ 3 → P xs
+three P h [] e = absurd (omega arith)
+three P h (a ∷ []) e = absurd (omega arith)
+three P h (a ∷ b ∷ []) e = absurd (omega arith)
+three P h (a ∷ b ∷ c ∷ []) e = h a b c
+three P h (a ∷ b ∷ c ∷ d ∷ xs) e = absurd (omega arith)
+
+module _ (xs : List ℕ) (x : ℕ) (long : length xs ≡ 3) where
+  pub set-over : asideIs (set xs 0 x) ≡ record { over = x; added = asideIs xs .added; mark = asideIs xs .mark }
+  set-over = three (λ xs. asideIs (set xs 0 x) ≡ record { over = x; added = asideIs xs .added; mark = asideIs xs .mark }) (λ a b c. refl) xs long
+
+  pub set-added : asideIs (set xs 1 x) ≡ record { over = asideIs xs .over; added = x; mark = asideIs xs .mark }
+  set-added = three (λ xs. asideIs (set xs 1 x) ≡ record { over = asideIs xs .over; added = x; mark = asideIs xs .mark }) (λ a b c. refl) xs long
+
+  pub set-mark : asideIs (set xs 2 x) ≡ record { over = asideIs xs .over; added = asideIs xs .added; mark = x }
+  set-mark = three (λ xs. asideIs (set xs 2 x) ≡ record { over = asideIs xs .over; added = asideIs xs .added; mark = x }) (λ a b c. refl) xs long
+
+  pub set-three : (i : ℕ) → length (set xs i x) ≡ 3
+  set-three i = length-set xs i x ∙ long
+
+-- A scope lends nothing added: what is lent to its children, and what was told before, by what was written.
+module _ (xs : List ℕ) (long : length xs ≡ 3) (scope x : ℕ) where
+  pub scope-lends : x ≡ pick (eqb scope 1) 0 (asideIs xs .added) →
+      asideIs (set xs 1 x) ≡ record { over = asideIs (set xs 1 x) .over; added = pick (eqb scope 1) 0 (asideIs xs .added); mark = asideIs (set xs 1 x) .mark }
+  scope-lends e =
+      let added = ap (λ z. z .added) (set-added xs x long) ∙ e in
+      λ i. record { over = asideIs (set xs 1 x) .over; added = added i; mark = asideIs (set xs 1 x) .mark }
+
+  pub scope-before : record { over = asideIs (set xs 1 x) .over; added = asideIs xs .added; mark = asideIs (set xs 1 x) .mark } ≡ asideIs xs
+  scope-before = let same = set-added xs x long in λ i. record { over = same i .over; added = asideIs xs .added; mark = same i .mark }
+
+  pub scope-after : (before : ℕ) → x ≡ pick (eqb scope 1) before (asideIs xs .added) →
+      asideIs (set xs 1 x) ≡ record { over = asideIs xs .over; added = pick (eqb scope 1) before (asideIs xs .added); mark = asideIs xs .mark }
+  scope-after before e = set-added xs x long ∙ ap (λ z. record { over = asideIs xs .over; added = z; mark = asideIs xs .mark }) e
+
+-- a record that owns nothing comes to the same, however children are read
+alone : (left : ℕ) (s bounds : List ℕ) (own standing product : ℕ) (c : Cursor) {f : Found} {x : Parsed} → foundAt s own left standing c ≡ f →
+    ((read : ChildReader) → ownedOf read bounds (c .at) standing product f ≡ x) → constructOf left s bounds own standing product c ≡ x
+unfolding constructOf
+alone zero s bounds own standing product c e h = ap (ownedOf (λ _ _ d. Refused 8 (d .at)) bounds (c .at) standing product) e ∙ h _
+alone (suc left) s bounds own standing product c e h = ap (ownedOf (constructOf left s bounds own) bounds (c .at) standing product) e ∙ h _
+
+-- a record with children
+pub owner : (left : ℕ) (s bounds : List ℕ) (own standing product : ℕ) (c : Cursor) {f : Found} → 1 ≤ left → foundAt s own left standing c ≡ f →
+    constructOf left s bounds own standing product c ≡ ownedOf (constructOf (left - 1) s bounds own) bounds (c .at) standing product f
+unfolding constructOf
+owner zero s bounds own standing product c h e = absurd (omega arith)
+owner (suc left) s bounds own standing product c h e = rw (e, sub-one (suc left))
+
+module _ (left : ℕ) (s bounds : List ℕ) (own standing product : ℕ) (c : Cursor) where
+  pub refuses : {number place : ℕ} → foundAt s own left standing c ≡ found.Refused number place → constructOf left s bounds own standing product c ≡ Refused number place
+  unfolding ownedOf
+  refuses e = alone left s bounds own standing product c e (λ read. refl)
+
+  module _ {a : Aside} (small : a .added ≤ valueCap) where
+    -- nothing is told aside but a mark
+    told-alone : {v mark : ℕ} {next : Cursor} {b : Aside} → constructOf left s bounds own standing product c ≡ Done (share v 0 0 mark next) →
+        b ≡ asideOf a 0 0 mark → v ≤ 1099511627775 → mark ≤ 1000001 → Past s left (c .at) next →
+        Valued (length s) (c .at) a (constructOf left s bounds own standing product c) (parsed.Value v next) b
+    told-alone {v} {mark} {next} is same low few p = record {
+      told = share v 0 0 mark next;
+      is = is;
+      returned = refl;
+      aside = same;
+      fine = record { value = low; added = omega arith; mark = few; past = p .past; inside = p .inside };
+    }
+
+    pub primitive-alone : {cost : ℕ} {next : Cursor} → foundAt s own left standing c ≡ found.Primitive cost next →
+        Valued (length s) (c .at) a (constructOf left s bounds own standing product c) (parsed.Value cost next) a
+    unfolding ownedOf
+    primitive-alone {cost} {next} e = go (subst (Ranged s own left (c .at)) e (ranged s own left standing (c .at)))
+      where
+        go : Ranged s own left (c .at) (found.Primitive cost next) → Valued (length s) (c .at) a (constructOf left s bounds own standing product c) (parsed.Value cost next) a
+        go (Ranged.a-primitive p h) = told-alone (alone left s bounds own standing product c e (λ read. refl)) (aside-none small) (omega arith) (omega arith) p
+
+    pub call-alone : {number : ℕ} {next : Cursor} → ((i : ℕ) → getD bounds i 0 ≤ 1099511627775) → foundAt s own left standing c ≡ found.Call number next →
+        Valued (length s) (c .at) a (constructOf left s bounds own standing product c) (parsed.Value (getD bounds (number - 1) 0) next) a
+    unfolding ownedOf
+    call-alone {number} {next} low e = go (subst (Ranged s own left (c .at)) e (ranged s own left standing (c .at)))
+      where
+        go : Ranged s own left (c .at) (found.Call number next) →
+            Valued (length s) (c .at) a (constructOf left s bounds own standing product c) (parsed.Value (getD bounds (number - 1) 0) next) a
+        go (Ranged.a-call p g h) = told-alone (alone left s bounds own standing product c e (λ read. refl)) (aside-none small) (low (number - 1)) (omega arith) p
+
+    pub marker-alone : {limit cost : ℕ} {next : Cursor} {b : Aside} → foundAt s own left standing c ≡ found.Marker limit cost next →
+        b ≡ record { over = a .over; added = a .added; mark = limit + 1 } →
+        Valued (length s) (c .at) a (constructOf left s bounds own standing product c) (parsed.Value cost next) b
+    unfolding ownedOf
+    marker-alone {limit} {cost} {next} {b} e f = go (subst (Ranged s own left (c .at)) e (ranged s own left standing (c .at)))
+      where
+        marked : b ≡ asideOf a 0 0 (limit + 1)
+        marked =
+            let none : a ≡ asideOf a 0 0 0 = aside-none small in
+            f ∙ rw (ne-eqb (limit + 1) 0 (λ z. omega arith)) (λ i. record { over = none i .over; added = none i .added; mark = limit + 1 })
+
+        go : Ranged s own left (c .at) (found.Marker limit cost next) → Valued (length s) (c .at) a (constructOf left s bounds own standing product c) (parsed.Value cost next) b
+        go (Ranged.a-marker p g h) = told-alone (alone left s bounds own standing product c e (λ read. refl)) marked (omega arith) (omega arith) p
+
+-- what a good record holds, by its kind
+module _ (left : ℕ) (s : List ℕ) (own standing : ℕ) (c : Cursor) where
+  of-found : {f : Found} → foundAt s own left standing c ≡ f → Ranged s own left (c .at) f
+  of-found e = subst (Ranged s own left (c .at)) e (ranged s own left standing (c .at))
+
+  pub call-range : {number : ℕ} {next : Cursor} → foundAt s own left standing c ≡ found.Call number next → (1 ≤ number) × (number < own)
+  call-range {number} {next} e = go (of-found e)
+    where
+      go : Ranged s own left (c .at) (found.Call number next) → (1 ≤ number) × (number < own)
+      go (Ranged.a-call p g h) = (g, h)
+
+  pub marker-range : {limit cost : ℕ} {next : Cursor} → foundAt s own left standing c ≡ found.Marker limit cost next → limit ≤ 1000000
+  marker-range {limit} {cost} {next} e = go (of-found e)
+    where
+      go : Ranged s own left (c .at) (found.Marker limit cost next) → limit ≤ 1000000
+      go (Ranged.a-marker p g h) = g
+
+  pub sequence-range : {n : ℕ} {next : Cursor} → foundAt s own left standing c ≡ found.Sequence n next → Past s left (c .at) next × (n ≤ 1000)
+  sequence-range {n} {next} e = go (of-found e)
+    where
+      go : Ranged s own left (c .at) (found.Sequence n next) → Past s left (c .at) next × (n ≤ 1000)
+      go (Ranged.a-sequence p h) = (p, h)
+
+  pub alternative-range : {n : ℕ} {next : Cursor} → foundAt s own left standing c ≡ found.Alternative n next → Past s left (c .at) next × (2 ≤ n) × (n ≤ 256)
+  alternative-range {n} {next} e = go (of-found e)
+    where
+      go : Ranged s own left (c .at) (found.Alternative n next) → Past s left (c .at) next × (2 ≤ n) × (n ≤ 256)
+      go (Ranged.an-alternative p g h) = (p, g, h)
+
+  pub head-range : {count scope : ℕ} {next : Cursor} → foundAt s own left standing c ≡ found.HeadLoop count scope next →
+      Past s left (c .at) next × (count ≤ 1000000) × (scope ≤ 1)
+  head-range {count} {scope} {next} e = go (of-found e)
+    where
+      go : Ranged s own left (c .at) (found.HeadLoop count scope next) → Past s left (c .at) next × (count ≤ 1000000) × (scope ≤ 1)
+      go (Ranged.a-head-loop p g h) = (p, g, h)
+
+  pub tail-range : {count scope : ℕ} {next : Cursor} → foundAt s own left standing c ≡ found.TailLoop count scope next →
+      Past s left (c .at) next × (count ≤ 1000000) × (scope ≤ 1)
+  tail-range {count} {scope} {next} e = go (of-found e)
+    where
+      go : Ranged s own left (c .at) (found.TailLoop count scope next) → Past s left (c .at) next × (count ≤ 1000000) × (scope ≤ 1)
+      go (Ranged.a-tail-loop p f g h) = (p, g, h)
+
+  pub timed-range : {time : ℕ} {next : Cursor} → foundAt s own left standing c ≡ found.TimedLoop time next → Past s left (c .at) next × (time ≤ 4294967295)
+  timed-range {time} {next} e = go (of-found e)
+    where
+      go : Ranged s own left (c .at) (found.TimedLoop time next) → Past s left (c .at) next × (time ≤ 4294967295)
+      go (Ranged.a-timed-loop p h) = (p, h)
+
+-- what the list of a record is lent, past it
+pub lent-list : {s bounds marks aside : List ℕ} {own product held at left : ℕ} {next : Cursor} → Lent s bounds marks aside own product held at → Past s left at next →
+    Lent s bounds marks aside own product held (next .at)
+lent-list l p = record {
+  small = l .small;
+  few = l .few;
+  passes = l .passes;
+  room = l .room;
+  kept = omega (arith, l .kept, p .past);
+  three = l .three;
+  added = l .added;
+}
+
+pub within-list : {s : List ℕ} {left at : ℕ} {next : Cursor} → Past s left at next → Within s at (next .at)
+within-list p = record { past = p .past; inside = p .inside }
