@@ -100,7 +100,7 @@ module _ {read : ChildReader} {n start standing product : ℕ} {s lent : List �
     branch-mark h =
         let p = w .told in
         let is : b .mark ≡ pick (eqb (p .mark) 0) 0 (p .mark) =
-            ap (λ z. z .mark) (w .aside) ∙ ap (λ z. pick (eqb (p .mark) 0) (pick z marked 0) (p .mark)) (ne-eqb i 0 (λ e. omega arith)) in
+        ap (λ z. z .mark) (w .aside) ∙ ap (λ z. pick (eqb (p .mark) 0) (pick z marked 0) (p .mark)) (ne-eqb i 0 (λ e. omega arith)) in
         rw is (pick-most (eqb (p .mark) 0) (omega arith) (w .fine .mark))
 
   -- how large the sum and the largest branch can be

@@ -12,9 +12,11 @@ use Rattle.records.specs.declared.Cursor.{Cursor}
 use Rattle.records.specs.declared.Found.{Found}
 use Rattle.records.specs.declared.Found.the-variants as found
 use Rattle.records.proofs.Founds.{Past, Ranged, ranged}
+use Rattle.reader.specs.declared.Parsed as code
 use Rattle.reader.specs.declared.Parsed.the-variants as parsed
-use Rattle.reader.specs.Tallies.{Aside, asideIs, asideOf, valueCap, Parsed, Done, Refused, share, Told, Valued, Tells, a-value, a-refusal}
+use Rattle.reader.specs.Tallies.{Aside, asideIs, asideOf, asideOpened, valueTold, asideTold, valueCap, Parsed, Done, Refused, share, Told, Valued, Tells, a-value, a-refusal}
 use Rattle.reader.specs.Reader.{ChildReader, ownedOf, foundAt, constructOf, Lent, Within}
+use Rattle.reader.proofs.Laws.{pick-most}
 use Rattle.reader.proofs.Tells.{aside-none}
 
 -- one of the three places is written
@@ -38,20 +40,28 @@ module _ (xs : List ℕ) (x : ℕ) (long : length xs ≡ 3) where
   pub set-three : (i : ℕ) → length (set xs i x) ≡ 3
   set-three i = length-set xs i x ∙ long
 
--- A scope lends nothing added: what is lent to its children, and what was told before, by what was written.
-module _ (xs : List ℕ) (long : length xs ≡ 3) (scope x : ℕ) where
-  pub scope-lends : x ≡ pick (eqb scope 1) 0 (asideIs xs .added) →
-      asideIs (set xs 1 x) ≡ record { over = asideIs (set xs 1 x) .over; added = pick (eqb scope 1) 0 (asideIs xs .added); mark = asideIs (set xs 1 x) .mark }
-  scope-lends e =
-      let added = ap (λ z. z .added) (set-added xs x long) ∙ e in
-      λ i. record { over = asideIs (set xs 1 x) .over; added = added i; mark = asideIs (set xs 1 x) .mark }
+-- What `opened` and `paid` write, and what is lent to the children of a counted loop, by what was written.
+pub written : (xs : List ℕ) {x y : ℕ} → length xs ≡ 3 → x ≡ y → asideIs (set xs 1 x) ≡ record { over = asideIs xs .over; added = y; mark = asideIs xs .mark }
+written xs {x} long e = set-added xs x long ∙ ap (λ z. record { over = asideIs xs .over; added = z; mark = asideIs xs .mark }) e
 
-  pub scope-before : record { over = asideIs (set xs 1 x) .over; added = asideIs xs .added; mark = asideIs (set xs 1 x) .mark } ≡ asideIs xs
-  scope-before = let same = set-added xs x long in λ i. record { over = same i .over; added = asideIs xs .added; mark = same i .mark }
+module _ {a x : Aside} {before : ℕ} (scope : ℕ) (known : before ≡ a .added) (is : x ≡ asideOpened a scope) where
+  pub opened-lends : x ≡ record { over = x .over; added = pick (eqb scope 1) 0 before; mark = x .mark }
+  opened-lends =
+      let added = ap (λ z. z .added) is ∙ ap (λ z. pick (eqb scope 1) 0 z) (sym known) in
+      λ i. record { over = x .over; added = added i; mark = x .mark }
 
-  pub scope-after : (before : ℕ) → x ≡ pick (eqb scope 1) before (asideIs xs .added) →
-      asideIs (set xs 1 x) ≡ record { over = asideIs xs .over; added = pick (eqb scope 1) before (asideIs xs .added); mark = asideIs xs .mark }
-  scope-after before e = set-added xs x long ∙ ap (λ z. record { over = asideIs xs .over; added = z; mark = asideIs xs .mark }) e
+  pub opened-before : record { over = x .over; added = before; mark = x .mark } ≡ a
+  opened-before = λ i. record { over = is i .over; added = known i; mark = is i .mark }
+
+pub opened-small : {added before : ℕ} → before ≡ added → added ≤ valueCap → before ≤ valueCap
+opened-small e h = rw e h
+
+pub paid-small : {added x : ℕ} (scope : ℕ) → x ≡ pick (eqb scope 1) added 0 → added ≤ valueCap → x ≤ valueCap
+paid-small scope e h = rw e (pick-most (eqb scope 1) h (omega arith))
+
+pub same-end : {value other : ℕ} (start : ℕ) {next : Cursor} {z z' b : Aside} {r : code.Parsed} → value ≡ other → z ≡ z' → r ≡ parsed.Value (valueTold value) next →
+    b ≡ asideTold z value start → (r ≡ parsed.Value (valueTold other) next) × (b ≡ asideTold z' other start)
+same-end start e f g h = rw (← e, ← f) (g, h)
 
 -- a record that owns nothing comes to the same, however children are read
 alone : (left : ℕ) (s bounds : List ℕ) (own standing product : ℕ) (c : Cursor) {f : Found} {x : Parsed} → foundAt s own left standing c ≡ f →

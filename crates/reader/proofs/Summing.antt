@@ -11,10 +11,10 @@ use Rattle.records.specs.declared.Cursor.{Cursor}
 use Rattle.reader.specs.declared.Parsed.the-variants as parsed
 use Rattle.reader.specs.Tallies.{Aside, valueCap, counted, isBranch, Tally, chargesOf, withOf, valueTold, closeOf, asideTold, heaviest, heaviestSum, Counts, Valued}
 use Rattle.reader.specs.Reader.{Owner, ChildReader, childOf, listOf, listFrom, Within}
-use Rattle.reader.proofs.Laws.{pick-most, sum-fits, fewer-small, kept-other}
+use Rattle.reader.proofs.Laws.{sum-fits, fewer-small, kept-other}
 use Rattle.reader.proofs.Tells.{Closing, closed}
 use Rattle.reader.proofs.Lists.{list-end}
-use Rattle.reader.proofs.Going.{kept, Going, going-first, added-small, child-of, child-room, child-more}
+use Rattle.reader.proofs.Going.{kept, Going, going-first, child-of, child-room, child-more}
 
 -- the last mark of three that is one
 pub mark-three : (a t p : ℕ) → pick (eqb p 0) (pick (eqb t 0) a t) p ≡ pick (eqb (pick (eqb p 0) t p) 0) a (pick (eqb p 0) t p)
@@ -62,12 +62,9 @@ module _ {read : ChildReader} {o : Owner} {s lent : List ℕ} {n base : ℕ} {fr
   summing-fits more fits =
       rw (g .sums) (sum-fits (o .kind) i (g .going .tally) (fewer-small (i + 1) n (o .kind) (omega arith) fits))
 
-  -- all that are read fit, and what a scope pays
+  -- all that are read fit
   pub summing-small : n * heaviest (o .kind) ≤ heaviestSum → sum ≤ heaviestSum
   summing-small fits = rw (g .sums) (omega (arith, g .going .tally .sum, fewer-small i n (o .kind) (g .going .count) fits))
-
-  pub paid-small : {paid : ℕ} (scope : ℕ) → paid ≡ pick (eqb scope 1) (aside .added) 0 → paid ≤ valueCap
-  paid-small scope e = rw e (pick-most (eqb scope 1) (added-small (g .going)) (omega arith))
 
   -- one child more
   pub summing-more : {b : Aside} (after : List ℕ) {v : ℕ} {next : Cursor} →

@@ -159,10 +159,9 @@ pub record Lent (s bounds marks aside : List ℕ) (own product held at : ℕ) : 
   pub added : asideIs aside .added ≤ valueCap
 
 -- what is lent where a construct is read at once
-pub record LentOnce (s bounds aside : List ℕ) (own at : ℕ) : Type 0 where
+pub record LentOnce (bounds aside : List ℕ) (own : ℕ) : Type 0 where
   pub small : (i : ℕ) → getD bounds i 0 ≤ valueLimit
   pub few : own ≤ 64
-  pub inside : at ≤ length s
   pub three : length aside ≡ 3
   pub added : asideIs aside .added ≤ valueCap
 

@@ -127,6 +127,16 @@ asideOf a over added mark = record {
 abbrev pub asideTold : Aside → ℕ → ℕ → Aside
 asideTold a value start = record { over = pick (ltb valueLimit value) (pick (eqb (a .over) 0) start (a .over)) (a .over); added = a .added; mark = a .mark }
 
+-- A counted loop begins and ends: a scope has nothing added yet, and pays what its markers add; any other loop hands it on.
+abbrev pub asideOpened : Aside → ℕ → Aside
+asideOpened a scope = record { over = a .over; added = pick (eqb scope 1) 0 (a .added); mark = a .mark }
+
+abbrev pub paidOf : Aside → ℕ → ℕ
+paidOf a scope = pick (eqb scope 1) (a .added) 0
+
+abbrev pub asidePaid : Aside → ℕ → ℕ → Aside
+asidePaid a scope before = record { over = a .over; added = pick (eqb scope 1) before (a .added); mark = a .mark }
+
 -- The ranges that keep every sum in 64 bits.
 -- the most that a child adds; the most that all add
 abbrev pub heaviest : ℕ → ℕ

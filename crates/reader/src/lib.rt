@@ -8,7 +8,8 @@ ghost use Prim.Native.Nat.{_+_, _*_, _≤_, _<_, min, max};
 ghost use lib.ListN.{length, take};
 ghost use Rattle.meaning.specs.Format.{pick};
 ghost use Rattle.meaning.specs.Answer.{valueLimit};
-ghost use Rattle.reader.specs.Tallies.{valueCap, chargeOf, chargesOf, counted, heaviest, Counts, valueTold, asideTold, Tells, Quickly, keptOf, toppedOf, asideIs, noAside};
+ghost use Rattle.reader.specs.Tallies.{valueCap, chargeOf, chargesOf, counted, heaviest, heaviestSum, Counts, keptOf, toppedOf};
+ghost use Rattle.reader.specs.Tallies.{asideIs, noAside, asideOpened, paidOf, asidePaid, valueTold, asideTold, Tells, Quickly};
 ghost use Rattle.reader.specs.Ways.{leadOf, bodyOf, innerOf};
 ghost use Rattle.reader.specs.Reader.{listFrom, constructOf, routineOf, noBounds, progressFrom, progressWith, refusal, verdictOf, routinesOf, sheetOf, readOf};
 ghost use Rattle.reader.specs.Reader.{LentOnce, Lent, Within, ownerOf};
@@ -218,7 +219,7 @@ fn at_once(
     aside: &mut [u64; 3],
     standing: u64,
 ) -> Quick
-    requires { ⌜ LentOnce (now s) (now bounds) (now aside) own (c .at) ⌝ }
+    requires { ⌜ LentOnce (now bounds) (now aside) own ⌝ }
     ensures { λ r. ⌜ Quickly (length (now (s .entry))) (c .at) (asideIs (now (aside .entry))) (λ product. constructOf left (now (s .entry)) (now (bounds .entry)) own standing product c) r (asideIs (now (aside .exit))) ⌝ }
     ensures { λ _. ⌜ length (now (aside .exit)) ≡ 3 ⌝ }
 {
@@ -251,6 +252,37 @@ fn ended(value: u64, aside: &mut [u64; 3], start: usize, next: Cursor) -> Parsed
     Parsed::Value(value, next)
 }
 
+// A counted loop begins: a scope has nothing added yet. What was added before.
+fn opened(scope: u64, aside: &mut [u64; 3]) -> u64
+    requires { ⌜ length (now aside) ≡ 3 ⌝ }
+    ensures { λ r. ⌜ r ≡ asideIs (now (aside .entry)) .added ⌝ }
+    ensures { λ _. ⌜ asideIs (now (aside .exit)) ≡ asideOpened (asideIs (now (aside .entry))) scope ⌝ }
+    ensures { λ _. ⌜ length (now (aside .exit)) ≡ 3 ⌝ }
+{
+    let before = aside[ADDED];
+    aside[ADDED] = choose(scope == 1, 0, before);
+    before
+}
+
+// A counted loop ends: a scope pays what its markers add, once; any other loop hands it on.
+fn paid(
+    sum: u64,
+    scope: u64,
+    before: u64,
+    aside: &mut [u64; 3],
+    start: usize,
+    next: Cursor,
+) -> Parsed
+    requires { ⌜ (sum ≤ heaviestSum) × (asideIs (now aside) .added ≤ valueCap) × (length (now aside) ≡ 3) ⌝ }
+    ensures { λ r. ⌜ r ≡ Parsed.Value (valueTold (sum + paidOf (asideIs (now (aside .entry))) scope)) next ⌝ }
+    ensures { λ _. ⌜ asideIs (now (aside .exit)) ≡ asideTold (asidePaid (asideIs (now (aside .entry))) scope before) (sum + paidOf (asideIs (now (aside .entry))) scope) start ⌝ }
+    ensures { λ _. ⌜ length (now (aside .exit)) ≡ 3 ⌝ }
+{
+    let added = aside[ADDED];
+    aside[ADDED] = choose(scope == 1, before, added);
+    ended(sum + choose(scope == 1, added, 0), aside, start, next)
+}
+
 // One construct, with the list that it owns. marks keeps the marked branches of the alternatives that are open, so many of them.
 fn construct(
     s: &[u8],
@@ -274,11 +306,78 @@ fn construct(
     match c.construct(s, own, left, standing) {
         Found::Refused(number, place) => Parsed::Refused(number, place),
         Found::Primitive(cost, next) => Parsed::Value(cost, next),
-        Found::Sequence(n, next) => sequence(s, next, start, n, bounds, own, left - 1, marks, held, aside, standing, product),
-        Found::Alternative(n, next) => alternative(s, next, start, n, bounds, own, left - 1, marks, held, aside, standing, product),
-        Found::HeadLoop(count, scope, next) => head_loop(s, next, start, count, scope, bounds, own, left - 1, marks, held, aside, standing, product),
-        Found::TailLoop(count, scope, next) => tail_loop(s, next, start, count, scope, bounds, own, left - 1, marks, held, aside, standing, product),
-        Found::TimedLoop(time, next) => timed_loop(s, next, start, time, bounds, own, left - 1, marks, held, aside, standing, product),
+        Found::Sequence(n, next) => sequence(
+            s,
+            next,
+            start,
+            n,
+            bounds,
+            own,
+            left - 1,
+            marks,
+            held,
+            aside,
+            standing,
+            product,
+        ),
+        Found::Alternative(n, next) => alternative(
+            s,
+            next,
+            start,
+            n,
+            bounds,
+            own,
+            left - 1,
+            marks,
+            held,
+            aside,
+            standing,
+            product,
+        ),
+        Found::HeadLoop(count, scope, next) => head_loop(
+            s,
+            next,
+            start,
+            count,
+            scope,
+            bounds,
+            own,
+            left - 1,
+            marks,
+            held,
+            aside,
+            standing,
+            product,
+        ),
+        Found::TailLoop(count, scope, next) => tail_loop(
+            s,
+            next,
+            start,
+            count,
+            scope,
+            bounds,
+            own,
+            left - 1,
+            marks,
+            held,
+            aside,
+            standing,
+            product,
+        ),
+        Found::TimedLoop(time, next) => timed_loop(
+            s,
+            next,
+            start,
+            time,
+            bounds,
+            own,
+            left - 1,
+            marks,
+            held,
+            aside,
+            standing,
+            product,
+        ),
         Found::Call(number, next) => {
             let called = (number - 1) as usize;
             let bound = bounds[called];
@@ -377,7 +476,11 @@ fn alternative(
     let mut at = c;
     let mut i: u64 = 0;
     while i <= n {
-        let way = choose(i == 0, 0, choose((held - base) as u64 + 1 == n, last, usual));
+        let way = choose(
+            i == 0,
+            0,
+            choose((held - base) as u64 + 1 == n, last, usual),
+        );
         aside[MARK] = choose(i == 0, mark, 0);
         match at_once(s, at, bounds, own, left, aside, way) {
             Quick::Value(v, next) => {
@@ -440,8 +543,7 @@ fn head_loop(
 {
     let body = body_of(scope, standing);
     let inner = inner_of(count, scope, product);
-    let before = aside[ADDED];
-    aside[ADDED] = choose(scope == 1, 0, before);
+    let before = opened(scope, aside);
     let mut sum: u64 = 0;
     let mut at = c;
     let mut i: u64 = 0;
@@ -468,9 +570,7 @@ fn head_loop(
             }
         }
     }
-    let paid = aside[ADDED];
-    aside[ADDED] = choose(scope == 1, before, paid);
-    ended(sum + choose(scope == 1, paid, 0), aside, start, at)
+    paid(sum, scope, before, aside, start, at)
 }
 
 // Body, condition and overrun of a tail loop, and its end.
@@ -499,8 +599,7 @@ fn tail_loop(
 {
     let body = body_of(scope, standing);
     let inner = inner_of(count, scope, product);
-    let before = aside[ADDED];
-    aside[ADDED] = choose(scope == 1, 0, before);
+    let before = opened(scope, aside);
     let mut sum: u64 = 0;
     let mut at = c;
     let mut i: u64 = 0;
@@ -527,9 +626,7 @@ fn tail_loop(
             }
         }
     }
-    let paid = aside[ADDED];
-    aside[ADDED] = choose(scope == 1, before, paid);
-    ended(sum + choose(scope == 1, paid, 0), aside, start, at)
+    paid(sum, scope, before, aside, start, at)
 }
 
 // The timeout statement of a timed loop, and its end.
@@ -586,7 +683,7 @@ fn routine(
         Head::Good(r) => {
             let body = r.next;
             match construct(s, body, bounds, own, 24, marks, 0, aside, 0, 0) {
-                Parsed::Refused(number, place) => Parsed::Refused(number, place),
+                Parsed::Refused(fault, place) => Parsed::Refused(fault, place),
                 Parsed::Value(v, next) => ended(v + r.first, aside, start, next),
             }
         }

@@ -401,10 +401,12 @@ impl Cursor {
 
     // The record at the cursor where it is good and owns nothing. Its head is the length and the kind at once: 8 and 2, 8 and 8, 12 and 9.
     pub fn leaf(self, s: &[u8], own: u64, left: u64, standing: u64) -> Leaf
-        requires { ⌜ self .at ≤ length (now s) ⌝ }
         ensures { λ r. ⌜ r ≡ leafOf (foundOf (headOf (judged (now (s .entry)) (constructAs own left standing) (self .at)))) ⌝ }
     {
         let at = self.at;
+        if s.len() < at {
+            return Leaf::Other;
+        }
         if s.len() - at < 8 {
             return Leaf::Other;
         }

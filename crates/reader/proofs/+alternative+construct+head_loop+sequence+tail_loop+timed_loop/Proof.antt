@@ -22,7 +22,6 @@ use Rattle.reader.proofs.Depths.{μ-alternative, μ-construct, μ-head-
 use Rattle.reader.proofs.Depths.{alternative-at, construct-at, head-loop-at, sequence-at, tail-loop-at, timed-loop-at}
 use Rattle.reader.proofs.+alternative+construct+head_loop+sequence+tail_loop+timed_loop.{statement}
 use Rattle.reader.proofs.+alternative+construct+head_loop+sequence+tail_loop+timed_loop.Tie.{close}
-
 mod Alternative
 mod Construct
 mod HeadLoop
@@ -133,11 +132,9 @@ pub +alternative+construct+head-loop+sequence+tail-loop+timed-loop-spec : {M : T
     (λ t. head-loop-lts.spec (head-loop.claims t) (head-loop-at t) head-loop-reads.Post head-loop.Inv-loop head-loop.μ-loop
     (head-loop.body-of-requires t)
     (head-loop.inner-of-requires t)
-    (head-loop.element-copy-out-before t)
-    (head-loop.choose-requires t)
-    (head-loop.element-write-aside t)
+    (head-loop.opened-requires t)
     (head-loop.loop-holds t)
-    (head-loop.choose-requires-2 t)
+    (head-loop.choose-requires t)
     (head-loop.at-once-requires t)
     (head-loop.enum-known-v t)
     (head-loop.counted-requires t)
@@ -156,12 +153,7 @@ pub +alternative+construct+head-loop+sequence+tail-loop+timed-loop-spec : {M : T
     (head-loop.add-i-2 t)
     (head-loop.loop-less-2 t)
     (head-loop.loop-again-2 t)
-    (head-loop.element-copy-out-paid t)
-    (head-loop.choose-requires-3 t)
-    (head-loop.element-write-aside-2 t)
-    (head-loop.choose-requires-4 t)
-    (head-loop.add-ended t)
-    (head-loop.ended-requires t)
+    (head-loop.paid-requires t)
     (head-loop.same-length-2 t)
     (head-loop.returns-2 t))
     (λ t. sequence-lts.spec (sequence.claims t) (sequence-at t) sequence-reads.Post sequence.Inv-loop sequence.μ-loop
@@ -191,11 +183,9 @@ pub +alternative+construct+head-loop+sequence+tail-loop+timed-loop-spec : {M : T
     (λ t. tail-loop-lts.spec (tail-loop.claims t) (tail-loop-at t) tail-loop-reads.Post tail-loop.Inv-loop tail-loop.μ-loop
     (tail-loop.body-of-requires t)
     (tail-loop.inner-of-requires t)
-    (tail-loop.element-copy-out-before t)
-    (tail-loop.choose-requires t)
-    (tail-loop.element-write-aside t)
+    (tail-loop.opened-requires t)
     (tail-loop.loop-holds t)
-    (tail-loop.choose-requires-2 t)
+    (tail-loop.choose-requires t)
     (tail-loop.at-once-requires t)
     (tail-loop.enum-known-v t)
     (tail-loop.counted-requires t)
@@ -214,12 +204,7 @@ pub +alternative+construct+head-loop+sequence+tail-loop+timed-loop-spec : {M : T
     (tail-loop.add-i-2 t)
     (tail-loop.loop-less-2 t)
     (tail-loop.loop-again-2 t)
-    (tail-loop.element-copy-out-paid t)
-    (tail-loop.choose-requires-3 t)
-    (tail-loop.element-write-aside-2 t)
-    (tail-loop.choose-requires-4 t)
-    (tail-loop.add-ended t)
-    (tail-loop.ended-requires t)
+    (tail-loop.paid-requires t)
     (tail-loop.same-length-2 t)
     (tail-loop.returns-2 t))
     λ t. timed-loop-lts.spec (timed-loop.claims t) (timed-loop-at t) timed-loop-reads.Post

@@ -41,7 +41,7 @@ marks : (c : lts.After-known-told3 (leaf.Asked, leaf.Learnt) reads.Pre reads.Pos
 marks c = leaf-marker _ (sym (c .before .before .before .leaf .ensures) ∙ c .before .limit .given .1)
 
 leaf-requires : tie.Need-leaf-requires
-leaf-requires c κs = c .before .pre .inside
+leaf-requires c κs = search needs
 
 enum-known-cost : tie.Need-enum-known-cost
 enum-known-cost c = search needs

@@ -57,8 +57,8 @@ construct-requires c κs =
     let p = start (c .before .before .before) .pre in
     record { small = p .small; few = p .few; passes = omega arith; room = p .room; kept = omega arith; three = p .three; added = p .added }
 
-enum-known-number-2 : tie.Need-enum-known-number-2
-enum-known-number-2 c = search needs
+enum-known-fault : tie.Need-enum-known-fault
+enum-known-fault c = search needs
 
 enum-known-v : tie.Need-enum-known-v
 enum-known-v c = search needs
@@ -90,7 +90,7 @@ returns-2 c =
     let p = s .pre in
     let r = good read .before .r .given .0 .0 in
     let refused = timed-refused (constructOf 24 (a .s .now) (a .bounds .now) (a .own)) (r .first) (a .c .at) 0 0 (a .s .now) (a .marks .now) 0 (r .next)
-        (asideIs (a .aside .now)) (omega arith) (within (good read)) (p .added) (p .room) (tells-refusal (read .construct .ensures .0) (c .before .number2 .given .1)) in
+    (asideIs (a .aside .now)) (omega arith) (within (good read)) (p .added) (p .room) (tells-refusal (read .construct .ensures .0) (c .before .fault .given .1)) in
     (a-refusal (routine-good (a .s .now) (a .bounds .now) (a .own) (a .c) (is-good (good read)) ∙ refused) refl, read .construct .ensures .1 .1 .0)
 
 same-length-2 : tie.Need-same-length-2
@@ -105,10 +105,11 @@ returns-3 c =
     let p = s .pre in
     let r = good read .before .r .given .0 .0 in
     let w = timed-ends (constructOf 24 (a .s .now) (a .bounds .now) (a .own)) (r .first) (a .c .at) 0 0 (a .s .now) (a .marks .now) 0 (r .next) (asideIs (a .aside .now))
-        (omega arith) (within (good read)) (p .added) (p .room) (read .construct .last .1 .1 .1 .1 .1 .0)
-        (tells-value (read .construct .ensures .0) (told .before .v .given .1)) (read .construct .ensures .1 .0) (read .construct .ensures .1 .1 .0) in
-    (told-ended (c .ended .ensures .0) (c .ended .ensures .1 .0) (told-as (routine-good (a .s .now) (a .bounds .now) (a .own) (a .c) (is-good (good read))) w),
-    read .construct .ensures .1 .1 .0)
+    (omega arith) (within (good read)) (p .added) (p .room) (read .construct .last .1 .1 .1 .1 .1 .0)
+    (tells-value (read .construct .ensures .0) (told .before .v .given .1)) (read .construct .ensures .1 .0) (read .construct .ensures .1 .1 .0) in (
+      told-ended (c .ended .ensures .0) (c .ended .ensures .1 .0) (told-as (routine-good (a .s .now) (a .bounds .now) (a .own) (a .c) (is-good (good read))) w),
+      read .construct .ensures .1 .1 .0,
+    )
 
 pub routine-spec : {M : Type 1} → statement M
 routine-spec =
@@ -118,7 +119,7 @@ routine-spec =
     enum-known-number
     enum-known-r
     construct-requires
-    enum-known-number-2
+    enum-known-fault
     enum-known-v
     add-ended
     ended-requires

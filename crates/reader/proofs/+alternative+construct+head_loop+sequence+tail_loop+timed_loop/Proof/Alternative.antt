@@ -145,9 +145,11 @@ module _ (t : ℕ) where
   loop-holds c =
       let s = c .before .before .before .before .before in
       let a = s .args in
-      let p = s .pre .1 in
-      (branching-first (read s) (a .n) (a .start) (a .standing) (a .product) (a .s .now) (a .marks .now) (a .base) (a .c) (asideIs (a .aside .now)) (p .0 .kept) (p .1 .0)
-      (p .0 .added), p .0 .three)
+      let p = s .pre .1 in (
+        branching-first (read s) (a .n) (a .start) (a .standing) (a .product) (a .s .now) (a .marks .now) (a .base) (a .c) (asideIs (a .aside .now)) (p .0 .kept) (p .1 .0)
+            (p .0 .added),
+        p .0 .three,
+      )
 
   pub sub-choose : lts.Need-sub-choose claims (alternative-at t) alternative.Post Inv-loop μ-loop
   sub-choose c = c .before .loop .inv .0 .going .above
@@ -176,7 +178,6 @@ module _ (t : ℕ) where
       record {
         small = p .small;
         few = p .few;
-        inside = inv .going .inside;
         three = set-three (l .aside) (chosen .choose5 .result) three 2;
         added = aside-small (lent-aside chosen) (added-small (inv .going));
       }
@@ -193,9 +194,11 @@ module _ (t : ℕ) where
       let s = start (chosen told) in
       let l = testing (chosen told) .before .loop in
       let g = l .inv .0 in
-      let spare = s .pre .1 .0 .room in
-      (branch-room g (l .marks) (once told) spare (more (chosen told)) refl refl, valued-small (once told),
-      branch-mark g (l .marks) (once told) spare (more (chosen told)) refl refl)
+      let spare = s .pre .1 .0 .room in (
+        branch-room g (l .marks) (once told) spare (more (chosen told)) refl refl,
+        valued-small (once told),
+        branch-mark g (l .marks) (once told) spare (more (chosen told)) refl refl,
+      )
 
   pub topped-requires : lts.Need-topped-requires claims (alternative-at t) alternative.Post Inv-loop μ-loop
   topped-requires c κs = search needs
@@ -227,9 +230,11 @@ module _ (t : ℕ) where
       let kept = top .before .before .before in
       let told = kept .before .before .before in
       let s = start (chosen told) in
-      let l = testing (chosen told) .before .loop in
-      (branching-next (l .inv .0) (l .marks) (once told) (s .pre .1 .0 .room) (more (chosen told)) refl refl (kept .keep .ensures) (sixth .choose6 .ensures)
-      (top .topped .ensures) (seventh .choose7 .ensures), told .before .before .before .at-once .ensures .1)
+      let l = testing (chosen told) .before .loop in (
+        branching-next (l .inv .0) (l .marks) (once told) (s .pre .1 .0 .room) (more (chosen told)) refl refl (kept .keep .ensures) (sixth .choose6 .ensures)
+            (top .topped .ensures) (seventh .choose7 .ensures),
+        told .before .before .before .at-once .ensures .1,
+      )
 
   pub enum-told : lts.Need-enum-told claims (alternative-at t) alternative.Post Inv-loop μ-loop
   enum-told c = search needs
@@ -264,10 +269,13 @@ module _ (t : ℕ) where
   returns c =
       let built = c .before .before .before .before .before in
       let g = testing (lending built) .before .loop .inv .0 .going in
-      let refused = child-is (lending built) ∙ tells-refusal (built .construct .ensures .0) (c .before .number .given .1) in
-      (a-refusal (child-refused g (start (lending built) .pre .1 .0 .room) (more (lending built)) refused) refl,
-      (still-below (built .construct .last .1 .1 .1 .1 .1 .0) g (built .construct .ensures .1 .0),
-      (still-long (built .construct .last .1 .1 .1 .1 .1 .0) g (built .construct .ensures .1 .1 .0), built .construct .ensures .1 .1 .1)))
+      let refused = child-is (lending built) ∙ tells-refusal (built .construct .ensures .0) (c .before .number .given .1) in (
+        a-refusal (child-refused g (start (lending built) .pre .1 .0 .room) (more (lending built)) refused) refl,
+        (
+          still-below (built .construct .last .1 .1 .1 .1 .1 .0) g (built .construct .ensures .1 .0),
+          (still-long (built .construct .last .1 .1 .1 .1 .1 .0) g (built .construct .ensures .1 .1 .0), built .construct .ensures .1 .1 .1),
+        ),
+      )
 
   pub enum-known-v-2 : lts.Need-enum-known-v-2 claims (alternative-at t) alternative.Post Inv-loop μ-loop
   enum-known-v-2 c = search needs
@@ -283,9 +291,11 @@ module _ (t : ℕ) where
       let g = testing (lending built) .before .loop .inv .0 in
       let w = read-by built (told .before .v2 .given .1) in
       let after = built .construct .last .1 .1 .1 .1 .1 .0 in
-      let spare = s .pre .1 .0 .room in
-      (branch-room g after w spare (more (lending built)) (built .construct .ensures .1 .0) (built .construct .ensures .1 .1 .0), valued-small w,
-      branch-mark g after w spare (more (lending built)) (built .construct .ensures .1 .0) (built .construct .ensures .1 .1 .0))
+      let spare = s .pre .1 .0 .room in (
+        branch-room g after w spare (more (lending built)) (built .construct .ensures .1 .0) (built .construct .ensures .1 .1 .0),
+        valued-small w,
+        branch-mark g after w spare (more (lending built)) (built .construct .ensures .1 .0) (built .construct .ensures .1 .1 .0),
+      )
 
   pub topped-requires-2 : lts.Need-topped-requires-2 claims (alternative-at t) alternative.Post Inv-loop μ-loop
   topped-requires-2 c κs = search needs
@@ -299,7 +309,7 @@ module _ (t : ℕ) where
       let built = told .before .before .before .before .before in
       let l = testing (lending built) .before .loop in
       let fits = branching-fits (l .inv .0) (c .choose8 .ensures) (valued-small (read-by built (told .before .v2 .given .1))) (more (lending built))
-          (start (lending built) .pre .1 .1 .1 .1) in
+      (start (lending built) .pre .1 .1 .1 .1) in
       omega (arith, fits)
 
   pub choose-requires-9 : lts.Need-choose-requires-9 claims (alternative-at t) alternative.Post Inv-loop μ-loop
@@ -319,10 +329,12 @@ module _ (t : ℕ) where
       let told = kept .before .before .before in
       let built = told .before .before .before .before .before in
       let s = start (lending built) in
-      let l = testing (lending built) .before .loop in
-      (branching-next (l .inv .0) (built .construct .last .1 .1 .1 .1 .1 .0) (read-by built (told .before .v2 .given .1)) (s .pre .1 .0 .room) (more (lending built))
-      (built .construct .ensures .1 .0) (built .construct .ensures .1 .1 .0) (kept .keep2 .ensures) (sixth .choose8 .ensures) (top .topped2 .ensures)
-      (c .choose9 .ensures), built .construct .ensures .1 .1 .1)
+      let l = testing (lending built) .before .loop in (
+        branching-next (l .inv .0) (built .construct .last .1 .1 .1 .1 .1 .0) (read-by built (told .before .v2 .given .1)) (s .pre .1 .0 .room) (more (lending built))
+            (built .construct .ensures .1 .0) (built .construct .ensures .1 .1 .0) (kept .keep2 .ensures) (sixth .choose8 .ensures) (top .topped2 .ensures)
+            (c .choose9 .ensures),
+        built .construct .ensures .1 .1 .1,
+      )
 
   pub element-write-aside-2 : lts.Need-element-write-aside-2 claims (alternative-at t) alternative.Post Inv-loop μ-loop
   element-write-aside-2 c = search needs

@@ -213,17 +213,21 @@ module _ (t : ℕ) where
   pub returns : lts.Need-returns claims (construct-at t) construct.Post
   returns c =
       let s = start (c .before .before .before) in
-      let a = s .args in
-      (a-refusal (refuses (a .left) (a .s .now) (a .bounds .now) (a .own) (a .standing) (a .product) (a .c) (finds (c .before .before .before) (c .before .number .given .1)))
-      refl, (refl, (refl, s .pre .1 .three)))
+      let a = s .args in (
+        a-refusal (refuses (a .left) (a .s .now) (a .bounds .now) (a .own) (a .standing) (a .product) (a .c) (finds (c .before .before .before) (c .before .number .given .1)))
+            refl,
+        (refl, (refl, s .pre .1 .three)),
+      )
 
   pub returns-2 : lts.Need-returns-2 claims (construct-at t) construct.Post
   returns-2 c =
       let s = start (c .before .before .before) in
       let a = s .args in
-      let p = s .pre .1 in
-      (a-value (primitive-alone (a .left) (a .s .now) (a .bounds .now) (a .own) (a .standing) (a .product) (a .c) (p .added)
-      (finds (c .before .before .before) (c .before .cost .given .1))), (refl, (refl, p .three)))
+      let p = s .pre .1 in (
+        a-value (primitive-alone (a .left) (a .s .now) (a .bounds .now) (a .own) (a .standing) (a .product) (a .c) (p .added)
+            (finds (c .before .before .before) (c .before .cost .given .1))),
+        (refl, (refl, p .three)),
+      )
 
   pub same-length : lts.Need-same-length claims (construct-at t) construct.Post
   same-length c = c .before .before .sequence .ensures .1 .1 .0
@@ -290,15 +294,17 @@ module _ (t : ℕ) where
       let told = c .before in
       let s = start (told .before .before .before) in
       let a = s .args in
-      let p = s .pre .1 in
-      (a-value (call-alone (a .left) (a .s .now) (a .bounds .now) (a .own) (a .standing) (a .product) (a .c) (p .added) (p .small) (is-call told)),
-      (refl, (refl, p .three)))
+      let p = s .pre .1 in (
+        a-value (call-alone (a .left) (a .s .now) (a .bounds .now) (a .own) (a .standing) (a .product) (a .c) (p .added) (p .small) (is-call told)),
+        (refl, (refl, p .three)),
+      )
 
   pub returns-9 : lts.Need-returns-9 claims (construct-at t) construct.Post
   returns-9 c =
       let s = start (c .before .before .before) in
       let a = s .args in
       let p = s .pre .1 in
-      let xs = a .aside .now in
-      (a-value (marker-alone (a .left) (a .s .now) (a .bounds .now) (a .own) (a .standing) (a .product) (a .c) (p .added) (is-marker c) (set-mark xs _ (p .three))),
-      (refl, (refl, set-three xs _ (p .three) 2)))
+      let xs = a .aside .now in (
+        a-value (marker-alone (a .left) (a .s .now) (a .bounds .now) (a .own) (a .standing) (a .product) (a .c) (p .added) (is-marker c) (set-mark xs _ (p .three))),
+        (refl, (refl, set-three xs _ (p .three) 2)),
+      )

@@ -12,9 +12,9 @@ use Rattle.reader.specs.Tallies.{Aside, asideIs, Valued, Counts, a-refus
 use Rattle.reader.specs.Reader.{Owner, ownerOf, ChildReader, childOf, constructOf}
 use Rattle.reader.proofs.Tells.{told-as, told-from, told-ended, aside-small, valued-small, tells-value, tells-refusal, quickly-value, quickly-other}
 use Rattle.reader.proofs.Children.{head-child}
-use Rattle.reader.proofs.Constructs.{set-three, scope-lends, scope-before, scope-after}
+use Rattle.reader.proofs.Constructs.{opened-lends, opened-small, opened-before}
 use Rattle.reader.proofs.Going.{added-small, still-below, still-long, child-refused}
-use Rattle.reader.proofs.Summing.{paid-is, Summing, summing-from, summing-fits, summing-small, paid-small, summing-more, summing-ends}
+use Rattle.reader.proofs.Summing.{paid-is, Summing, summing-from, summing-fits, summing-small, summing-more, summing-ends}
 use Rattle.reader.proofs.Depths.{head-loop-at, construct-below}
 use Rattle.reader.proofs.construct.Reads as construct
 use Rattle.reader.proofs.head_loop.Reads as head-loop
@@ -22,7 +22,8 @@ use Rattle.reader.proofs.at_once.Reads as at-once
 use Rattle.reader.proofs.body_of.Reads as body-of
 use Rattle.reader.proofs.choose.Reads as choose
 use Rattle.reader.proofs.counted.Reads as counted
-use Rattle.reader.proofs.ended.Reads as ended
+use Rattle.reader.proofs.opened.Reads as opened
+use Rattle.reader.proofs.paid.Reads as paid
 use Rattle.reader.proofs.inner_of.Reads as inner-of
 use Rattle.reader.proofs.+alternative+construct+head_loop+sequence+tail_loop+timed_loop.Lts-head_loop as lts
 
@@ -42,6 +43,8 @@ module _ (t : ℕ) where
     body-of.Learnt,
     inner-of.Asked,
     inner-of.Learnt,
+    opened.Asked,
+    opened.Learnt,
     choose.Asked,
     choose.Learnt,
     at-once.Asked,
@@ -50,21 +53,21 @@ module _ (t : ℕ) where
     counted.Learnt,
     construct-below t,
     construct.Post,
-    ended.Asked,
-    ended.Learnt,
+    paid.Asked,
+    paid.Learnt,
   )
 
   abbrev Start : Type 0
   Start = lts.Start claims (head-loop-at t) head-loop.Post Inv-loop μ-loop
 
   abbrev Chosen : Type 0
-  Chosen = lts.After-choose2 claims (head-loop-at t) head-loop.Post Inv-loop μ-loop
+  Chosen = lts.After-choose claims (head-loop-at t) head-loop.Post Inv-loop μ-loop
 
   -- the start, from where the loop is entered
-  abbrev start : lts.After-choose claims (head-loop-at t) head-loop.Post Inv-loop μ-loop → Start
+  abbrev start : lts.After-opened claims (head-loop-at t) head-loop.Post Inv-loop μ-loop → Start
   start c = c .before .before .before .before .before .before
 
-  abbrev entered : Chosen → lts.After-choose claims (head-loop-at t) head-loop.Post Inv-loop μ-loop
+  abbrev entered : Chosen → lts.After-opened claims (head-loop-at t) head-loop.Post Inv-loop μ-loop
   entered c = c .before .before .before
 
   abbrev read : Start → ChildReader
@@ -77,13 +80,13 @@ module _ (t : ℕ) where
   child-is : (c : Chosen) →
       let s = start (entered c) in
       let l = c .before .before .loop in
-      childOf (read s) (owner s) (l .i) (s .args .held - s .args .held) (l .at) ≡ read s (c .choose2 .result) (entered c .before .before .inner-of .result) (l .at)
+      childOf (read s) (owner s) (l .i) (s .args .held - s .args .held) (l .at) ≡ read s (c .choose .result) (entered c .before .before .inner-of .result) (l .at)
   child-is c =
       let s = start (entered c) in
       let l = c .before .before .loop in
       let ways = entered c .before .before in
       head-child (read s) (s .args .start) (s .args .standing) (s .args .product) (l .i) (s .args .held - s .args .held) (l .at) (s .args .count) (s .args .scope)
-      (ways .before .body-of .ensures) (ways .inner-of .ensures .0) (c .choose2 .ensures)
+      (ways .before .body-of .ensures) (ways .inner-of .ensures .0) (c .choose .ensures)
 
   -- child i was read at once
   abbrev AtOnce : Type 0
@@ -127,34 +130,29 @@ module _ (t : ℕ) where
   pub inner-of-requires : lts.Need-inner-of-requires claims (head-loop-at t) head-loop.Post Inv-loop μ-loop
   inner-of-requires c κs = let p = c .before .before .before .pre .1 in (p .1 .1 .0, p .0 .passes)
 
-  pub element-copy-out-before : lts.Need-element-copy-out-before claims (head-loop-at t) head-loop.Post Inv-loop μ-loop
-  element-copy-out-before c = search needs
-
-  pub choose-requires : lts.Need-choose-requires claims (head-loop-at t) head-loop.Post Inv-loop μ-loop
-  choose-requires c κs = search needs
-
-  pub element-write-aside : lts.Need-element-write-aside claims (head-loop-at t) head-loop.Post Inv-loop μ-loop
-  element-write-aside c = search needs
+  pub opened-requires : lts.Need-opened-requires claims (head-loop-at t) head-loop.Post Inv-loop μ-loop
+  opened-requires c κs = c .before .before .before .before .before .pre .1 .0 .three
 
   pub loop-holds : lts.Need-loop-holds claims (head-loop-at t) head-loop.Post Inv-loop μ-loop
   loop-holds c =
       let s = start c in
       let a = s .args in
       let p = s .pre .1 in
-      let xs = a .aside .now in
-      let x = c .choose .result in
-      (summing-from (read s) (owner s) (a .s .now) (a .marks .now) 4 (a .held) (a .c)
-      (record { over = asideIs (set xs 1 x) .over; added = asideIs xs .added; mark = asideIs (set xs 1 x) .mark })
-      (scope-lends xs (p .0 .three) (a .scope) x (c .choose .ensures)) (p .0 .kept) (p .1 .0) (p .0 .added), set-three xs x (p .0 .three) 1)
+      let xs = c .opened .last .1 .0 in (
+        summing-from (read s) (owner s) (a .s .now) (a .marks .now) 4 (a .held) (a .c)
+            (record { over = asideIs xs .over; added = c .opened .result; mark = asideIs xs .mark })
+            (opened-lends (a .scope) (c .opened .ensures .0) (c .opened .ensures .1 .0)) (p .0 .kept) (p .1 .0) (opened-small (c .opened .ensures .0) (p .0 .added)),
+        c .opened .ensures .1 .1,
+      )
 
-  pub choose-requires-2 : lts.Need-choose-requires-2 claims (head-loop-at t) head-loop.Post Inv-loop μ-loop
-  choose-requires-2 c κs = search needs
+  pub choose-requires : lts.Need-choose-requires claims (head-loop-at t) head-loop.Post Inv-loop μ-loop
+  choose-requires c κs = search needs
 
   pub at-once-requires : lts.Need-at-once-requires claims (head-loop-at t) head-loop.Post Inv-loop μ-loop
   at-once-requires c κs =
       let p = start (entered (c .before)) .pre .1 .0 in
       let (inv, three) = c .before .before .before .loop .inv in
-      record { small = p .small; few = p .few; inside = inv .going .inside; three = three; added = added-small (inv .going) }
+      record { small = p .small; few = p .few; three = three; added = added-small (inv .going) }
 
   pub enum-known-v : lts.Need-enum-known-v claims (head-loop-at t) head-loop.Post Inv-loop μ-loop
   enum-known-v c = search needs
@@ -177,10 +175,11 @@ module _ (t : ℕ) where
   loop-again c =
       let s = start (entered (chosen (c .before))) in
       let l = chosen (c .before) .before .before .loop in
-      let counts : Counts 5 (s .args .count) = record { loop = λ _. s .pre .1 .1 .1 .0 } in
-      (summing-more (l .inv .0) (l .marks) (once (c .before)) (c .counted .ensures .0) (s .pre .1 .0 .room) counts (chosen (c .before) .before .loop-test .taken) refl
-      refl refl,
-      c .before .before .before .before .at-once .ensures .1)
+      let counts : Counts 5 (s .args .count) = record { loop = λ _. s .pre .1 .1 .1 .0 } in (
+        summing-more (l .inv .0) (l .marks) (once (c .before)) (c .counted .ensures .0) (s .pre .1 .0 .room) counts (chosen (c .before) .before .loop-test .taken) refl
+            refl refl,
+        c .before .before .before .before .at-once .ensures .1,
+      )
 
   pub enum-told : lts.Need-enum-told claims (head-loop-at t) head-loop.Post Inv-loop μ-loop
   enum-told c = search needs
@@ -215,10 +214,13 @@ module _ (t : ℕ) where
   returns c =
       let built = c .before .before .before .before .before in
       let g = lending built .before .before .loop .inv .0 .going in
-      let refused = child-is (lending built) ∙ tells-refusal (built .construct .ensures .0) (c .before .number .given .1) in
-      (a-refusal (child-refused g (start (entered (lending built)) .pre .1 .0 .room) (lending built .before .loop-test .taken) refused) refl,
-      (still-below (built .construct .last .1 .1 .1 .1 .1 .0) g (built .construct .ensures .1 .0),
-      (still-long (built .construct .last .1 .1 .1 .1 .1 .0) g (built .construct .ensures .1 .1 .0), built .construct .ensures .1 .1 .1)))
+      let refused = child-is (lending built) ∙ tells-refusal (built .construct .ensures .0) (c .before .number .given .1) in (
+        a-refusal (child-refused g (start (entered (lending built)) .pre .1 .0 .room) (lending built .before .loop-test .taken) refused) refl,
+        (
+          still-below (built .construct .last .1 .1 .1 .1 .1 .0) g (built .construct .ensures .1 .0),
+          (still-long (built .construct .last .1 .1 .1 .1 .1 .0) g (built .construct .ensures .1 .1 .0), built .construct .ensures .1 .1 .1),
+        ),
+      )
 
   pub enum-known-v-2 : lts.Need-enum-known-v-2 claims (head-loop-at t) head-loop.Post Inv-loop μ-loop
   enum-known-v-2 c = search needs
@@ -244,46 +246,27 @@ module _ (t : ℕ) where
       let built = c .before .before .before .before .before .before in
       let s = start (entered (lending built)) in
       let l = lending built .before .before .loop in
-      let counts : Counts 5 (s .args .count) = record { loop = λ _. s .pre .1 .1 .1 .0 } in
-      (summing-more (l .inv .0) (built .construct .last .1 .1 .1 .1 .1 .0) (read-by built (c .before .before .v2 .given .1)) (c .counted2 .ensures .0)
-      (s .pre .1 .0 .room) counts (lending built .before .loop-test .taken) refl (built .construct .ensures .1 .0) (built .construct .ensures .1 .1 .0),
-      built .construct .ensures .1 .1 .1)
+      let counts : Counts 5 (s .args .count) = record { loop = λ _. s .pre .1 .1 .1 .0 } in (
+        summing-more (l .inv .0) (built .construct .last .1 .1 .1 .1 .1 .0) (read-by built (c .before .before .v2 .given .1)) (c .counted2 .ensures .0)
+            (s .pre .1 .0 .room) counts (lending built .before .loop-test .taken) refl (built .construct .ensures .1 .0) (built .construct .ensures .1 .1 .0),
+        built .construct .ensures .1 .1 .1,
+      )
 
-  pub element-copy-out-paid : lts.Need-element-copy-out-paid claims (head-loop-at t) head-loop.Post Inv-loop μ-loop
-  element-copy-out-paid c = search needs
-
-  pub choose-requires-3 : lts.Need-choose-requires-3 claims (head-loop-at t) head-loop.Post Inv-loop μ-loop
-  choose-requires-3 c κs = search needs
-
-  pub element-write-aside-2 : lts.Need-element-write-aside-2 claims (head-loop-at t) head-loop.Post Inv-loop μ-loop
-  element-write-aside-2 c = search needs
-
-  pub choose-requires-4 : lts.Need-choose-requires-4 claims (head-loop-at t) head-loop.Post Inv-loop μ-loop
-  choose-requires-4 c κs = search needs
-
-  pub add-ended : lts.Need-add-ended claims (head-loop-at t) head-loop.Post Inv-loop μ-loop
-  add-ended c =
-      let loop = c .before .before .before .before in
-      let g = loop .loop .inv .0 in
-      omega (arith, summing-small g (omega arith), paid-small g (start (loop .before) .args .scope) (c .choose4 .ensures))
-
-  pub ended-requires : lts.Need-ended-requires claims (head-loop-at t) head-loop.Post Inv-loop μ-loop
-  ended-requires c κs = let l = c .before .before .before .before .before .loop in set-three (l .aside) (c .before .before .choose3 .result) (l .inv .1) 1
+  pub paid-requires : lts.Need-paid-requires claims (head-loop-at t) head-loop.Post Inv-loop μ-loop
+  paid-requires c κs = let l = c .before .before .loop in (summing-small (l .inv .0) (omega arith), added-small (l .inv .0 .going), l .inv .1)
 
   pub same-length-2 : lts.Need-same-length-2 claims (head-loop-at t) head-loop.Post Inv-loop μ-loop
-  same-length-2 c = c .before .before .before .before .before .before .loop .inv .0 .going .long
+  same-length-2 c = c .before .before .before .loop .inv .0 .going .long
 
   pub returns-2 : lts.Need-returns-2 claims (head-loop-at t) head-loop.Post Inv-loop μ-loop
   returns-2 c =
-      let fourth = c .before .before in
-      let third = fourth .before in
-      let l = third .before .before .before .loop in
+      let loop = c .before .before .before in
+      let l = loop .loop in
       let g = l .inv .0 in
-      let s = start (third .before .before .before .before) in
-      let xs = s .args .aside .now in
-      let p = s .pre .1 in
-      let x = third .before .before .before .before .choose .result in
-      let after = scope-after (l .aside) (l .inv .1) (s .args .scope) (third .choose3 .result) (asideIs xs .added) (third .choose3 .ensures) in
-      let w = summing-ends g (third .before .before .loop-test .left) (p .0 .added) after (paid-is (l .sum) (fourth .choose4 .ensures)) in
-      (told-ended (c .ended .ensures .0) (c .ended .ensures .1 .0) (told-from (scope-before xs (p .0 .three) (s .args .scope) x) w),
-      (g .going .below, (g .going .long, c .ended .ensures .1 .1)))
+      let first = loop .before in
+      let s = start first in
+      let w = summing-ends g (c .before .before .loop-test .left) (opened-small (first .opened .ensures .0) (s .pre .1 .0 .added)) refl (paid-is (l .sum) refl) in (
+        told-ended (c .paid .ensures .0) (c .paid .ensures .1 .0)
+            (told-from (opened-before (s .args .scope) (first .opened .ensures .0) (first .opened .ensures .1 .0)) w),
+        (g .going .below, (g .going .long, c .paid .ensures .1 .1)),
+      )

@@ -130,7 +130,7 @@ module _ (t : ℕ) where
   at-once-requires c κs =
       let p = start (c .before) .pre .1 .0 in
       let (inv, three) = c .before .before .before .loop .inv in
-      record { small = p .small; few = p .few; inside = inv .going .inside; three = three; added = added-small (inv .going) }
+      record { small = p .small; few = p .few; three = three; added = added-small (inv .going) }
 
   pub enum-known-v : lts.Need-enum-known-v claims (sequence-at t) sequence.Post Inv-loop μ-loop
   enum-known-v c = search needs
@@ -151,9 +151,10 @@ module _ (t : ℕ) where
   unfolding counted
   loop-again c =
       let s = start (chosen c) in
-      let l = chosen c .before .before .loop in
-      (summing-more (l .inv .0) (l .marks) (once c) refl (s .pre .1 .0 .room) (no-loop refl) (chosen c .before .loop-test .taken) refl refl refl,
-      c .before .before .before .at-once .ensures .1)
+      let l = chosen c .before .before .loop in (
+        summing-more (l .inv .0) (l .marks) (once c) refl (s .pre .1 .0 .room) (no-loop refl) (chosen c .before .loop-test .taken) refl refl refl,
+        c .before .before .before .at-once .ensures .1,
+      )
 
   pub enum-told : lts.Need-enum-told claims (sequence-at t) sequence.Post Inv-loop μ-loop
   enum-told c = search needs
@@ -188,9 +189,10 @@ module _ (t : ℕ) where
   returns c =
       let built = c .before .before .before .before .before in
       let g = lending built .before .before .loop .inv .0 .going in
-      let refused = child-is (lending built) ∙ tells-refusal (built .construct .ensures .0) (c .before .number .given .1) in
-      (a-refusal (child-refused g (start (lending built) .pre .1 .0 .room) (lending built .before .loop-test .taken) refused) refl,
-      (still-below (built .construct .last .1 .1 .1 .1 .1 .0) g (built .construct .ensures .1 .0), (still-long (built .construct .last .1 .1 .1 .1 .1 .0) g (built .construct .ensures .1 .1 .0), built .construct .ensures .1 .1 .1)))
+      let refused = child-is (lending built) ∙ tells-refusal (built .construct .ensures .0) (c .before .number .given .1) in (
+        a-refusal (child-refused g (start (lending built) .pre .1 .0 .room) (lending built .before .loop-test .taken) refused) refl,
+        (still-below (built .construct .last .1 .1 .1 .1 .1 .0) g (built .construct .ensures .1 .0), (still-long (built .construct .last .1 .1 .1 .1 .1 .0) g (built .construct .ensures .1 .1 .0), built .construct .ensures .1 .1 .1)),
+      )
 
   pub enum-known-v-2 : lts.Need-enum-known-v-2 claims (sequence-at t) sequence.Post Inv-loop μ-loop
   enum-known-v-2 c = search needs
@@ -213,9 +215,11 @@ module _ (t : ℕ) where
   loop-again-2 c =
       let built = c .before .before .before .before .before in
       let s = start (lending built) in
-      let l = lending built .before .before .loop in
-      (summing-more (l .inv .0) (built .construct .last .1 .1 .1 .1 .1 .0) (read-by built (c .before .v2 .given .1)) refl (s .pre .1 .0 .room) (no-loop refl) (lending built .before .loop-test .taken) refl
-      (built .construct .ensures .1 .0) (built .construct .ensures .1 .1 .0), built .construct .ensures .1 .1 .1)
+      let l = lending built .before .before .loop in (
+        summing-more (l .inv .0) (built .construct .last .1 .1 .1 .1 .1 .0) (read-by built (c .before .v2 .given .1)) refl (s .pre .1 .0 .room) (no-loop refl) (lending built .before .loop-test .taken) refl
+            (built .construct .ensures .1 .0) (built .construct .ensures .1 .1 .0),
+        built .construct .ensures .1 .1 .1,
+      )
 
   pub ended-requires : lts.Need-ended-requires claims (sequence-at t) sequence.Post Inv-loop μ-loop
   ended-requires c κs = c .before .before .loop .inv .1

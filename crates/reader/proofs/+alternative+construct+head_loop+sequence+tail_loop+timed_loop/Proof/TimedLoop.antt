@@ -63,7 +63,7 @@ module _ (t : ℕ) where
   at-once-requires c κs =
       let s = c .before .before .before in
       let p = s .pre .1 in
-      record { small = p .0 .small; few = p .0 .few; inside = p .1 .0 .inside; three = p .0 .three; added = p .0 .added }
+      record { small = p .0 .small; few = p .0 .few; three = p .0 .three; added = p .0 .added }
 
   pub enum-known-v : lts.Need-enum-known-v claims (timed-loop-at t) timed-loop.Post
   enum-known-v c = search needs
@@ -81,7 +81,7 @@ module _ (t : ℕ) where
       let a = s .args in
       let p = s .pre .1 in
       let w = timed-ends (read s) (a .time) (a .start) (a .standing) (a .product) (a .s .now) (a .marks .now) (a .held) (a .c) (asideIs (a .aside .now)) (p .0 .kept)
-          (p .1 .0) (p .0 .added) (p .0 .room) (a .marks .now) (once once') refl refl in
+      (p .1 .0) (p .0 .added) (p .0 .room) (a .marks .now) (once once') refl refl in
       (told-ended (c .ended .ensures .0) (c .ended .ensures .1 .0) w, (refl, (refl, c .ended .ensures .1 .1)))
 
   pub enum-told : lts.Need-enum-told claims (timed-loop-at t) timed-loop.Post
@@ -125,7 +125,7 @@ module _ (t : ℕ) where
       let a = s .args in
       let p = s .pre .1 in
       let refused = timed-refused (read s) (a .time) (a .start) (a .standing) (a .product) (a .s .now) (a .marks .now) (a .held) (a .c) (asideIs (a .aside .now))
-          (p .0 .kept) (p .1 .0) (p .0 .added) (p .0 .room) (tells-refusal (built .construct .ensures .0) (c .before .number .given .1)) in
+      (p .0 .kept) (p .1 .0) (p .0 .added) (p .0 .room) (tells-refusal (built .construct .ensures .0) (c .before .number .given .1)) in
       (a-refusal refused refl, built .construct .ensures .1)
 
   pub same-length-2 : lts.Need-same-length-2 claims (timed-loop-at t) timed-loop.Post
@@ -139,7 +139,8 @@ module _ (t : ℕ) where
       let a = s .args in
       let p = s .pre .1 in
       let w = timed-ends (read s) (a .time) (a .start) (a .standing) (a .product) (a .s .now) (a .marks .now) (a .held) (a .c) (asideIs (a .aside .now)) (p .0 .kept)
-          (p .1 .0) (p .0 .added) (p .0 .room) (built .construct .last .1 .1 .1 .1 .1 .0) (read-by built (told .before .v2 .given .1)) (built .construct .ensures .1 .0)
-          (built .construct .ensures .1 .1 .0) in
-      (told-ended (c .ended2 .ensures .0) (c .ended2 .ensures .1 .0) w,
-      (built .construct .ensures .1 .0, (built .construct .ensures .1 .1 .0, c .ended2 .ensures .1 .1)))
+      (p .1 .0) (p .0 .added) (p .0 .room) (built .construct .last .1 .1 .1 .1 .1 .0) (read-by built (told .before .v2 .given .1)) (built .construct .ensures .1 .0)
+      (built .construct .ensures .1 .1 .0) in (
+        told-ended (c .ended2 .ensures .0) (c .ended2 .ensures .1 .0) w,
+        (built .construct .ensures .1 .0, (built .construct .ensures .1 .1 .0, c .ended2 .ensures .1 .1)),
+      )
