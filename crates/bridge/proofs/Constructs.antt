@@ -9,19 +9,17 @@ use borrow.Author.Tests.{le-ltb, leb-false, eqb-false}
 use native.Mathlib.Omega.{arith}
 use native.Mathlib.Numerals.{add-one}
 use Rattle.meaning.specs.Tree.{Construct, primitive, call, marker, itself, mark}
-use Rattle.meaning.specs.Format.{rangesOf, Record, field}
+use Rattle.meaning.specs.Format.{rangesOf, Record}
 use Rattle.meaning.specs.Legal.{Reach}
 use Rattle.meaning.specs.Value.{Known, total, times, value, charges}
-use Rattle.meaning.specs.Judgement.{Reading, refused, andThen, construct, ConstructReader, owned, constructAt}
+use Rattle.meaning.specs.Judgement.{Reading, refused, found, andThen, construct, ConstructReader, owned, constructAt}
 use Rattle.meaning.specs.Answer.{valueLimit, ended, ends, tooBig}
 use Rattle.meaning.proofs.Laws.{pick-false}
 use Rattle.demands.proofs.Found.{Found, not-read, was-read}
 use Rattle.demands.proofs.Good.{good}
 use Rattle.demands.proofs.Records.{Judged, judged-good, Sort, sort}
 use Rattle.demands.proofs.Records.{a-primitive, a-sequence, an-alternative, a-head-loop, a-tail-loop, a-timed-loop, a-call, a-marker}
-use Rattle.records.specs.declared.Read.{Read}
-use Rattle.records.specs.declared.Head.the-variants as head
-use Rattle.records.specs.Records.{childrenOf, headOf, foundOf}
+use Rattle.records.specs.Records.{foundOf}
 use Rattle.reader.specs.Tallies.{Refused}
 use Rattle.reader.specs.Reader.{ChildReader, ownedOf, constructOf}
 use Rattle.bridge.proofs.Agree.{standingOf, occurs, markNumber, either, Agrees, Same, both-refused, read-done, Finds, Small}
@@ -40,15 +38,11 @@ leaf known product at next v m c e h alone free marked =
     let small : tooBig (ended known at c) ≡ none = rw (alone, ← e, le-ltb valueLimit v h) in
     record { reached = refl; over = rw small; amount = λ z. e; small = h; added = λ z. rw free; marked = marked }
 
--- a record as the code holds it
-abbrev readOf : Record → ℕ → Read
-readOf x next = record { kind = x .kind; first = field x 0; second = field x 1; children = childrenOf (x .kind) (field x 0); next = record { at = next } }
-
 module _ (known : Known) (s bounds : List ℕ) (before own : ℕ) (number : own ≡ before + 1) (finds : Finds known bounds before) (small : Small bounds) where
   module _ (depth left : ℕ) (read : ChildReader) (g : ConstructReader) (alike : Alike known read g) (sure : Sure s before own number (suc depth) g)
       (r : Reach) (lies : occurs r ≡ true) (last : Bool) (product held at : ℕ) (cap : held ≡ min 1000000 product) (place : 1 ≤ at) where
     owned-law : {x : Record} {next : ℕ} → Sort x → Judged s (construct own left r last) at x next →
-        Same known product at (ownedOf read bounds at (standingOf r last) held (foundOf (head.Good (readOf x next)))) (owned g r last x next)
+        Same known product at (ownedOf read bounds at (standingOf r last) held (foundOf (found x next))) (owned g r last x next)
     unfolding ownedOf rangesOf ended value
     owned-law {next = next} (a-primitive cost) j =
         let few = first-most _ _ cost _ (j .range) .0 in
@@ -77,13 +71,13 @@ module _ (known : Known) (s bounds : List ℕ) (before own : ℕ) (number : own 
 
     -- what is judged good is owned; at depth 25 nothing is
     record-law : {j : Reading Record} → Found (Judged s (construct own left r last) at) j →
-        Same known product at (ownedOf read bounds at (standingOf r last) held (foundOf (headOf j))) (andThen j (owned g r last))
+        Same known product at (ownedOf read bounds at (standingOf r last) held (foundOf j)) (andThen j (owned g r last))
     unfolding ownedOf
     record-law (not-read n) = both-refused
     record-law (was-read {a = x} j) = owned-law (sort x (j .kind) (j .range)) j
 
   too-deep : (r : Reach) (last : Bool) (product held at : ℕ) {j : Reading Record} → Found (Judged s (construct own 0 r last) at) j →
-      Same known product at (ownedOf (λ _ _ d. Refused 8 (d .at)) bounds at (standingOf r last) held (foundOf (headOf j))) (andThen j (λ x. refused 8))
+      Same known product at (ownedOf (λ _ _ d. Refused 8 (d .at)) bounds at (standingOf r last) held (foundOf j)) (andThen j (λ x. refused 8))
   unfolding ownedOf
   too-deep r last product held at (not-read n) = both-refused
   too-deep r last product held at (was-read j) = absurd (false≢true (sym (j .place .1)))

@@ -21,7 +21,7 @@ use Rattle.reader.specs.declared.Answer.the-variants as answer
 use Rattle.reader.specs.Tallies.{valueCap, asideIs, Parsed, Done, Refused, share, Tally, noTally, chargesOf, withOf, keptOf, closeOf}
 use Rattle.reader.specs.Ways.{waysOf, wayOf}
 
--- the record at a cursor, judged
+-- the record at a cursor, judged, where the sheet's or a routine's is owed
 abbrev pub recordOf : List ℕ → Owed → Cursor → Head
 recordOf s owed c = headOf (judged s owed (c .at))
 
@@ -86,7 +86,7 @@ ownedOf read bounds start standing product (found.Refused number place) = Refuse
 
 -- the construct at a cursor, with so many depths left; where none is left, no record is found
 abbrev pub foundAt : List ℕ → ℕ → ℕ → ℕ → Cursor → Found
-foundAt s own left standing c = foundOf (recordOf s (constructAs own left standing) c)
+foundAt s own left standing c = foundOf (judged s (constructAs own left standing) (c .at))
 
 unfoldable pub constructOf : ℕ → List ℕ → List ℕ → ℕ → ChildReader
 constructOf zero s bounds own standing product c = ownedOf (λ _ _ d. Refused 8 (d .at)) bounds (c .at) standing product (foundAt s own 0 standing c)

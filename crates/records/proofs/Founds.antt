@@ -1,19 +1,25 @@
 -- What is known of a construct's record by what is found of it, for the callers of `Cursor` in other crates: its ranges, and where it ends.
 use Prim.Native.Nat.{ℕ, _+_, _≤_, _<_}
 use mathlib.Core.Path.{_≡_, refl, subst}
+use mathlib.Core.Bool.{true, false}
 use mathlib.Core.List.{List}
-use lib.ListN.{length}
-use Rattle.meaning.specs.Judgement.{judged}
+use lib.ListN.{length, length-drop}
+use lib.Dec.{leb, eqb}
+use native.Mathlib.Nat.{pos-of-ne-zero}
+use native.Mathlib.Omega.{arith}
+use borrow.Author.Tests.{leb-false, eqb-false}
+use Rattle.meaning.specs.Format.{Range, lengthOf, inRanges, of}
+use Rattle.meaning.specs.Judgement as judgement
+use Rattle.meaning.specs.Judgement.{badCall, judged}
+use Rattle.meaning.proofs.Laws.{pick-false}
 use Rattle.records.specs.declared.Cursor.{Cursor}
-use Rattle.records.specs.declared.Read.{Read}
-use Rattle.records.specs.declared.Head.{Head}
-use Rattle.records.specs.declared.Head.the-variants.{Good, Refused}
 use Rattle.records.specs.declared.Found.{Found}
 use Rattle.records.specs.declared.Found.the-variants as found
 use Rattle.records.specs.declared.Leaf.{Leaf}
 use Rattle.records.specs.declared.Leaf.the-variants as leaf
-use Rattle.records.specs.Records.{constructAs, headOf, foundOf, leafOf}
-use Rattle.records.proofs.Good.{Sorted, fine}
+use Rattle.records.specs.Records.{constructAs, foundOf, leafOf}
+use Rattle.records.proofs.Good.{Row, by-judgement, one-field, two-fields}
+use Rattle.records.proofs.Table.{_&_}
 
 -- a record that stands no deeper than it may, and ends in the sheet
 pub record Past (s : List ℕ) (left at : ℕ) (next : Cursor) : Type 0 where
@@ -35,24 +41,30 @@ pub data Ranged (s : List ℕ) (own left at : ℕ) : Found → Type 0 where
       Ranged s own left at (found.Marker limit cost next)
   refused : {number place : ℕ} → Ranged s own left at (found.Refused number place)
 
-pub ranged : (s : List ℕ) (own left standing at : ℕ) → Ranged s own left at (foundOf (headOf (judged s (constructAs own left standing) at)))
-ranged s own left standing at = go (headOf (judged s (constructAs own left standing) at)) refl
-  where
-    sorts : {r : Read} → Past s left at (r .next) → Sorted own r → Ranged s own left at (foundOf (Good r))
-    sorts p (Sorted.a-primitive high) = a-primitive p high
-    sorts p (Sorted.a-sequence high) = a-sequence p high
-    sorts p (Sorted.an-alternative low high) = an-alternative p low high
-    sorts p (Sorted.a-head-loop high most) = a-head-loop p high most
-    sorts p (Sorted.a-tail-loop low high most) = a-tail-loop p low high most
-    sorts p (Sorted.a-timed-loop high) = a-timed-loop p high
-    sorts p (Sorted.a-call named before) = a-call p named before
-    sorts p (Sorted.a-marker high most) = a-marker p high most
+module _ (s : List ℕ) (own left standing at : ℕ) where
+  abbrev Of : ℕ → ℕ → List ℕ → Type 0
+  Of kind past fields =
+      Past s left at (record { at = past }) → badCall own (of kind fields) ≡ false → Ranged s own left at (foundOf (judgement.found (of kind fields) past))
 
-    go : (h : Head) → headOf (judged s (constructAs own left standing) at) ≡ h → Ranged s own left at (foundOf h)
-    go (Refused number place) e = refused
-    go (Good r) e =
-        let f = fine s own left standing at e in
-        sorts (record { deep = f .deep; past = f .past; inside = f .inside }) (f .sorted)
+  row : (kind : ℕ) (ranges : List Range) → 1 ≤ length ranges →
+      ((fields : List ℕ) → inRanges ranges fields ≡ true → Of kind (at + lengthOf (length ranges)) fields) →
+      Row s (constructAs own left standing) at (λ j. Ranged s own left at (foundOf j)) kind ranges
+  row kind ranges some sorts fields inside room keeps =
+      let l = length-drop at s in
+      sorts fields inside (record { deep = keeps .1; past = omega arith; inside = omega arith }) (keeps .0)
+
+  pub ranged : Ranged s own left at (foundOf (judged s (constructAs own left standing) at))
+  ranged = by-judgement s (constructAs own left standing) at (λ j. Ranged s own left at (foundOf j)) (λ _. refused) (
+      row 2 _ (omega arith) (one-field (Of 2 _) _ (λ a _ high p _. a-primitive p high))
+      & row 3 _ (omega arith) (one-field (Of 3 _) _ (λ a _ high p _. a-sequence p high))
+      & row 4 _ (omega arith) (one-field (Of 4 _) _ (λ a low high p _. an-alternative p low high))
+      & row 5 _ (omega arith) (two-fields (Of 5 _) _ _ (λ a b _ high _ most p _. a-head-loop p high most))
+      & row 6 _ (omega arith) (two-fields (Of 6 _) _ _ (λ a b low high _ most p _. a-tail-loop p low high most))
+      & row 7 _ (omega arith) (one-field (Of 7 _) _ (λ a _ high p _. a-timed-loop p high))
+      & row 8 _ (omega arith) (one-field (Of 8 _) _ (λ a _ _ p h.
+      let (named, before) = pick-false (eqb a 0) (leb own a) h in a-call p (pos-of-ne-zero (eqb-false a 0 named)) (leb-false own a before)))
+      & row 9 _ (omega arith) (two-fields (Of 9 _) _ _ (λ a b _ high _ most p _. a-marker p high most))
+      & tt)
 
 -- what is found where a leaf is read
 abbrev FoundAs : Found → Leaf → Type 0

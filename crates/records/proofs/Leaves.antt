@@ -18,11 +18,12 @@ use Rattle.records.specs.declared.Field.the-variants as field
 use Rattle.records.specs.declared.Fields.{Fields}
 use Rattle.records.specs.declared.Fields.the-variants as fields
 use Rattle.records.specs.declared.Found.{Found}
-use Rattle.records.specs.declared.Judged.{Judged}
+use Rattle.records.specs.declared.Found.the-variants as found
+use Rattle.records.specs.declared.Fit.{Fit}
 use Rattle.records.specs.declared.Leaf.{Leaf}
 use Rattle.records.specs.declared.Leaf.the-variants as leaf
-use Rattle.records.specs.Records.{constructAs, headOf, foundOf, byKind, leafOf, childrenOf}
-use Rattle.records.specs.Steps.{fieldAt, fieldsAt, formOf, isOutside, isBadCall, misplaced, markerFault, toldOf, withFields, judgeOf}
+use Rattle.records.specs.Records.{constructAs, foundOf, byKind, leafOf}
+use Rattle.records.specs.Steps.{fieldAt, fieldsAt, formOf, isOutside, isBadCall, misplaced, markerFault, withFields, judgeOf, onFit}
 use Rattle.records.proofs.Laws.{field-most, fields-first}
 use Rattle.records.proofs.Judging.{construct-cut, construct-arm, construct-none}
 use Rattle.records.proofs.Table.{_&_, by-rows}
@@ -30,7 +31,7 @@ use Rattle.records.proofs.Founds.{Past, Ranged, ranged}
 
 -- what `leaf` promises
 abbrev pub AsLeaf : List ℕ → ℕ → ℕ → ℕ → ℕ → Leaf → Type 0
-AsLeaf s own left standing at l = l ≡ leafOf (foundOf (headOf (judged s (constructAs own left standing) at)))
+AsLeaf s own left standing at l = l ≡ leafOf (foundOf (judged s (constructAs own left standing) at))
 
 not-cut : {first second : ℕ} {next : Cursor} → fields.Cut ≡ fields.All first second next → ⊥
 not-cut e = let z : _≡_ {A = ℕ} 0 1 = cc in absurd (omega arith)
@@ -61,8 +62,8 @@ no-room s own left standing at none = go (ranged s own left standing at)
     go (Ranged.a-marker p _ _) = absurd (none _ p)
     go Ranged.refused = refl
 
-abbrev Told : ℕ → Leaf → Judged → Type 0
-Told at l j = l ≡ leafOf (foundOf (toldOf j at))
+abbrev Told : ℕ → ℕ → Leaf → Fit → Type 0
+Told kind at l j = l ≡ leafOf (onFit found.Refused byKind kind at j)
 
 -- A record of a kind that has passed every test is good; if no good one is a leaf, none is.
 module _ (s : List ℕ) (own left standing : ℕ) (c : Cursor) (kind size : ℕ) where
@@ -73,31 +74,31 @@ module _ (s : List ℕ) (own left standing : ℕ) (c : Cursor) (kind size : ℕ)
     pub placed : misplaced kind first own left standing ≡ 0
 
   good-leaf : (at : ℕ) {first second : ℕ} {next : Cursor} → Passes first second next →
-      Told at (leafOf (byKind kind first second next)) (judgeOf s c kind size (formOf kind) own left standing)
+      Told kind at (leafOf (byKind kind first second next)) (judgeOf s (c .at) kind size (formOf kind) own left standing)
   unfolding judgeOf
   good-leaf at p = rw (p .sized, p .read, p .within, p .placed)
 
   no-leaf : (at : ℕ) → ((first second : ℕ) (next : Cursor) → Passes first second next → leaf.Other ≡ leafOf (byKind kind first second next)) →
-      Told at leaf.Other (judgeOf s c kind size (formOf kind) own left standing)
+      Told kind at leaf.Other (judgeOf s (c .at) kind size (formOf kind) own left standing)
   unfolding judgeOf
   no-leaf at owns = by-size (eqb size (formOf kind .length)) refl
     where
       by-rest : (first second : ℕ) (next : Cursor) → eqb size (formOf kind .length) ≡ true →
           fieldsAt s (c .at) (eqb (formOf kind .length) 12) ≡ fields.All first second next → (t u : Bool) →
           isOutside (formOf kind) first second ≡ t → eqb (misplaced kind first own left standing) 0 ≡ u →
-          Told at leaf.Other (withFields c kind (formOf kind) own left standing (fields.All first second next))
+          Told kind at leaf.Other (withFields kind (formOf kind) own left standing (fields.All first second next))
       by-rest first second next z r true u w p = rw w
       by-rest first second next z r false true w p =
           rw (w, p) (owns first second next (record { sized = z; read = r; within = w; placed = eqb-true (misplaced kind first own left standing) 0 p }))
       by-rest first second next z r false false w p = rw (w, p)
 
       by-fields : eqb size (formOf kind .length) ≡ true → (all : Fields) → fieldsAt s (c .at) (eqb (formOf kind .length) 12) ≡ all →
-          Told at leaf.Other (withFields c kind (formOf kind) own left standing all)
+          Told kind at leaf.Other (withFields kind (formOf kind) own left standing all)
       by-fields z fields.Cut r = refl
       by-fields z (fields.All first second next) r =
           by-rest first second next z r (isOutside (formOf kind) first second) (eqb (misplaced kind first own left standing) 0) refl refl
 
-      by-size : (t : Bool) → eqb size (formOf kind .length) ≡ t → Told at leaf.Other (judgeOf s c kind size (formOf kind) own left standing)
+      by-size : (t : Bool) → eqb size (formOf kind .length) ≡ t → Told kind at leaf.Other (judgeOf s (c .at) kind size (formOf kind) own left standing)
       by-size true z = rw z (by-fields z (fieldsAt s (c .at) (eqb (formOf kind .length) 12)) refl)
       by-size false z = rw z
 
@@ -110,8 +111,8 @@ module _ (s : List ℕ) (own left standing at : ℕ) (are : (i : ℕ) → Fits w
     Good = Passes s own left standing c (head / 65536) (head % 65536)
 
     arm-is : listed (head / 65536) constructRows ≡ true → {l : Leaf} →
-        Told at l (judgeOf s c (head / 65536) (head % 65536) (formOf (head / 65536)) own left standing) → AsLeaf s own left standing at l
-    arm-is h told = told ∙ ap leafOf (construct-arm s own left standing at are head c e (head / 65536) h refl refl refl)
+        Told (head / 65536) at l (judgeOf s (c .at) (head / 65536) (head % 65536) (formOf (head / 65536)) own left standing) → AsLeaf s own left standing at l
+    arm-is h told = told ∙ ap leafOf (construct-arm s own left standing at are head c e (head / 65536) h refl refl)
 
     leaf-is : listed (head / 65536) constructRows ≡ true → {first second : ℕ} {next : Cursor} → Good first second next →
         AsLeaf s own left standing at (leafOf (byKind (head / 65536) first second next))
@@ -151,7 +152,7 @@ module _ (o : Opened) where
 
   -- a record that owns nothing has one of three heads
   pub other-head : o .head ≢ 131080 → o .head ≢ 524296 → o .head ≢ 589836 → Reads leaf.Other
-  unfolding formOf rangesOf childrenOf
+  unfolding formOf rangesOf
   other-head primitive call marker =
       other-is (o .s) (o .own) (o .left) (o .standing) (o .at) (o .are) (o .head) (o .rest) (o .read) (λ h first second next p.
       by-rows (Owns first second next) constructRows (
@@ -190,16 +191,16 @@ module _ (o : Opened) where
 
   -- a primitive, and a call
   any-within : isOutside (formOf 2) (o .first) 0 ≡ false
-  unfolding isOutside formOf rangesOf childrenOf
+  unfolding isOutside formOf rangesOf
   any-within = rw (le-ltb (o .first) 0 (omega arith), le-ltb 4294967295 (o .first) (field-most (o .s) (o .rest .at) (o .are) (o .read-first)))
 
   pub primitive-is : o .head ≡ 131080 → Reads (leaf.Primitive (o .first) (o .next))
-  unfolding listed formOf rangesOf childrenOf fieldsAt misplaced isBadCall
+  unfolding listed formOf rangesOf fieldsAt misplaced isBadCall
   primitive-is e =
       reads 131080 e refl (record { sized = refl; read = rw (← o .read-first); within = any-within; placed = rw (ne-eqb (o .left) 0 (o .deep)) })
 
   pub call-is : o .head ≡ 524296 → isBadCall 8 (o .first) (o .own) ≡ false → Reads (leaf.Call (o .first) (o .next))
-  unfolding listed formOf rangesOf childrenOf fieldsAt misplaced
+  unfolding listed formOf rangesOf fieldsAt misplaced
   call-is e h =
       reads 524296 e refl (record { sized = refl; read = rw (← o .read-first); within = any-within; placed = rw (h, ne-eqb (o .left) 0 (o .deep)) })
 
@@ -211,7 +212,7 @@ module _ (o : Opened) where
   module _ (e : o .head ≡ 589836) where
     pub marker-is : o .standing ≡ 5 → o .first ≤ 1000000 → {second : ℕ} {past : Cursor} → field.Value second past ≡ fieldAt (o .s) (o .next .at) →
         Reads (leaf.Marker (o .first) second past)
-    unfolding listed formOf rangesOf childrenOf fieldsAt isOutside misplaced isBadCall markerFault
+    unfolding listed formOf rangesOf fieldsAt isOutside misplaced isBadCall markerFault
     marker-is five most {second} {past} g =
         let low = le-ltb (o .first) 0 (omega arith) in
         let low2 = le-ltb second 0 (omega arith) in
@@ -226,12 +227,12 @@ module _ (o : Opened) where
     marker-stray h = reads-none 589836 e (λ second past p. h (marker-stands (o .first) (o .own) (o .left) (o .standing) (p .placed)))
 
     pub marker-most : 1000000 < o .first → Reads leaf.Other
-    unfolding isOutside formOf rangesOf childrenOf
+    unfolding isOutside formOf rangesOf
     marker-most h = reads-none 589836 e (λ second past p.
         let (inside, _) = pick-false _ _ (p .within) in
         let l = ltb-false 1000000 (o .first) (pick-false (ltb (o .first) 0) _ inside .1) in
         absurd (omega arith))
 
     pub marker-cut : field.Cut ≡ fieldAt (o .s) (o .next .at) → Reads leaf.Other
-    unfolding fieldsAt formOf rangesOf childrenOf
+    unfolding fieldsAt formOf rangesOf
     marker-cut g = reads-none 589836 e (λ second past p. not-cut (rw (← o .read-first, ← g) at (p .read)))

@@ -1,18 +1,14 @@
 -- Laws of the table of records: which kinds stand where, and that the code's form of a kind says what the table does.
-use Prim.Native.Nat.{ℕ, _+_, _≤_}
+use Prim.Native.Nat.{ℕ}
 use mathlib.Core.Path.{_≡_, refl, sym, ap, subst, _∙_}
 use mathlib.Core.Logic.{_≢_}
 use mathlib.Core.Bool.{Bool, true, false, not, false≢true}
 use mathlib.Core.List.{List, [], _∷_}
 use lib.Dec.{leb, ltb, eqb}
-use native.Mathlib.Omega.{arith}
-use borrow.Author.Tests.{ltb-false, leb-true, leb-false, eqb-true, ne-eqb, lt-ltb, le-ltb}
+use borrow.Author.Tests.{leb-true, leb-false, eqb-true, ne-eqb, lt-ltb, le-ltb}
 use Rattle.meaning.specs.Format.{pick, Range, Row, sheetRows, routineRows, constructRows, listed, rangesOf, within, inRanges}
 use Rattle.meaning.specs.Judgement.{Owed, sheet, routine, construct, rowsOf}
-use Rattle.meaning.proofs.Laws.{pick-false}
-use Rattle.records.specs.declared.Form.{Form}
-use Rattle.records.specs.Records.{childrenOf}
-use Rattle.records.specs.Steps.{everyRow, isListed, formOf, outside, isOutside}
+use Rattle.records.specs.Steps.{everyRow, outside}
 use Rattle.records.proofs.Laws.{itself}
 
 -- What holds of each row's kind and ranges holds of every kind that is listed.
@@ -56,33 +52,6 @@ in-table sheet = by-rows InTable sheetRows ((refl, tt) & tt)
 in-table routine = by-rows InTable routineRows ((refl, tt) & tt)
 in-table (construct own left r last) =
     by-rows InTable constructRows ((refl, tt) & (refl, tt) & (refl, tt) & (refl, tt) & (refl, tt) & (refl, tt) & (refl, tt) & (refl, tt) & tt)
-
--- Where the first field says how many children more, their number is small.
-listed-few : (kind : ℕ) → formOf kind .listed ≡ true → formOf kind .children + formOf kind .most ≤ 1000
-unfolding formOf rangesOf childrenOf
-listed-few kind = go (eqb kind 3) refl
-  where
-    go : (t : Bool) → eqb kind 3 ≡ t → pick t true (eqb kind 4) ≡ true → formOf kind .children + formOf kind .most ≤ 1000
-    go true e h = subst (λ k. formOf k .children + formOf k .most ≤ 1000) (sym (eqb-true kind 3 e)) (omega arith)
-    go false e h = subst (λ k. formOf k .children + formOf k .most ≤ 1000) (sym (eqb-true kind 4 h)) (omega arith)
-
-pub children-few : (kind : ℕ) (f : Form) (first second : ℕ) → f ≡ formOf kind → isOutside f first second ≡ false →
-    f .listed ≡ true → f .children + first ≤ 1000
-unfolding isOutside
-children-few kind f first second e h l =
-    let few : f .children + f .most ≤ 1000 = rw e (listed-few kind (rw e at l)) in
-    let within = pick-false (outside (f .least) (f .most) first) _ h .0 in
-    let most = ltb-false (f .most) first (pick-false (ltb first (f .least)) _ within .1) in
-    omega arith
-
-pub children-is : (kind first : ℕ) → pick (isListed kind) (childrenOf kind 0 + first) (childrenOf kind 0) ≡ childrenOf kind first
-unfolding childrenOf
-children-is kind first = go (eqb kind 3) (eqb kind 4) refl refl
-  where
-    go : (t u : Bool) → eqb kind 3 ≡ t → eqb kind 4 ≡ u → pick (pick t true u) (childrenOf kind 0 + first) (childrenOf kind 0) ≡ childrenOf kind first
-    go true u p q = subst (λ k. childrenOf k 0 + first ≡ childrenOf k first) (sym (eqb-true kind 3 p)) (omega arith)
-    go false true p q = subst (λ k. childrenOf k 0 + first ≡ childrenOf k first) (sym (eqb-true kind 4 q)) (omega arith)
-    go false false p q = rw (p, q)
 
 -- outside its range is not within it
 ltb-not : (a b : ℕ) → ltb a b ≡ not (leb b a)

@@ -1,5 +1,5 @@
 -- What `Cursor`'s public functions promise: document 01's judgement of one record, in the code's types.
-use Prim.Native.Nat.{ℕ, suc}
+use Prim.Native.Nat.{ℕ}
 use mathlib.Core.Bool.{Bool, true, not}
 use lib.Dec.{leb, eqb}
 use Rattle.meaning.specs.Format as format
@@ -32,21 +32,17 @@ lastOf standing = pick (eqb standing 4) true (eqb standing 6)
 abbrev pub constructAs : ℕ → ℕ → ℕ → judgement.Owed
 constructAs own left standing = judgement.construct own left (reachOf standing) (lastOf standing)
 
--- "Followed by": how many constructs a record owns
-unfoldable pub childrenOf : ℕ → ℕ → ℕ
-childrenOf kind first =
-    pick (eqb kind 1) 1  -- the body
-    (pick (eqb kind 3) first  -- n constructs
-    (pick (eqb kind 4) (suc first)  -- condition, then n branches
-    (pick (eqb kind 5) 4  -- init, condition, body, overrun
-    (pick (eqb kind 6) 3  -- body, condition, overrun
-    (pick (eqb kind 7) 1 0)))))  -- timeout statement
+-- what the judgement of a record is in the code's types, by what a refusal and a good record of a kind are there
+abbrev pub onJudged : {A : Type 0} → (ℕ → ℕ → A) → (ℕ → ℕ → ℕ → Cursor → A) → Reading format.Record → A
+onJudged refuses good (judgement.refused number place) = refuses number place
+onJudged refuses good (judgement.found x next) = good (x .kind) (field x 0) (field x 1) (record { at = next })
 
--- what the judgement of a record is in the code's types
+-- of the sheet and of a routine, where the kind is known
+abbrev pub asRead : ℕ → ℕ → ℕ → Cursor → Head
+asRead kind first second next = Good (record { first = first; second = second; next = next })
+
 abbrev pub headOf : Reading format.Record → Head
-headOf (judgement.refused number place) = Refused number place
-headOf (judgement.found x next) =
-    Good (record { kind = x .kind; first = field x 0; second = field x 1; children = childrenOf (x .kind) (field x 0); next = record { at = next } })
+headOf = onJudged Refused asRead
 
 -- a good construct's record by its kind; of kinds 2 to 9 the last is the marker
 abbrev pub byKind : ℕ → ℕ → ℕ → Cursor → Found
@@ -59,9 +55,8 @@ byKind kind first second next =
     (pick (eqb kind 7) (found.TimedLoop first next)
     (pick (eqb kind 8) (found.Call first next) (found.Marker first second next)))))))
 
-abbrev pub foundOf : Head → Found
-foundOf (Refused number place) = found.Refused number place
-foundOf (Good r) = byKind (r .kind) (r .first) (r .second) (r .next)
+abbrev pub foundOf : Reading format.Record → Found
+foundOf = onJudged found.Refused byKind
 
 -- a record that owns nothing
 abbrev pub leafOf : Found → Leaf

@@ -8,14 +8,15 @@ use Rattle.meaning.specs.Format.{pick, Range, _to_, Row, sheetRows, routineRows
 use Rattle.meaning.specs.Judgement.{four}
 use Rattle.records.specs.declared.Cursor.{Cursor}
 use Rattle.records.specs.declared.Head.{Head}
-use Rattle.records.specs.declared.Head.the-variants.{Good, Refused}
+use Rattle.records.specs.declared.Head.the-variants.{Refused}
 use Rattle.records.specs.declared.Form.{Form}
-use Rattle.records.specs.declared.Judged.{Judged}
+use Rattle.records.specs.declared.Fit.{Fit}
+use Rattle.records.specs.declared.Fit.the-variants.{Good, Bad}
 use Rattle.records.specs.declared.Field.{Field}
 use Rattle.records.specs.declared.Field.the-variants as field
 use Rattle.records.specs.declared.Fields.{Fields}
 use Rattle.records.specs.declared.Fields.the-variants as fields
-use Rattle.records.specs.Records.{childrenOf}
+use Rattle.records.specs.Records.{asRead}
 
 -- the four bytes at a place
 unfoldable pub fieldAt : List ℕ → ℕ → Field
@@ -35,25 +36,20 @@ unfoldable pub fieldsAt : List ℕ → ℕ → Bool → Fields
 fieldsAt s at both = withFirst s both (fieldAt s at)
 
 -- The form of a kind is what the public table says of it, so that only the code writes the numbers again.
-abbrev pub formFor : List Range → ℕ → Bool → Form
-formFor ranges children listed = record {
+abbrev pub formFor : List Range → Form
+formFor ranges = record {
   length = pick (eqb (length ranges) 0) 0 (lengthOf (length ranges));
   least = getD ranges 0 (0 to 0) .least;
   most = getD ranges 0 (0 to 0) .most;
   least2 = getD ranges 1 (0 to 0) .least;
   most2 = getD ranges 1 (0 to 0) .most;
-  children = children;
-  listed = listed;
 }
 
 abbrev pub everyRow : List Row
 everyRow = sheetRows ++ (routineRows ++ constructRows)
 
-abbrev pub isListed : ℕ → Bool  -- the first field says how many children more
-isListed kind = pick (eqb kind 3) true (eqb kind 4)
-
 unfoldable pub formOf : ℕ → Form
-formOf kind = formFor (rangesOf kind everyRow) (childrenOf kind 0) (isListed kind)
+formOf kind = formFor (rangesOf kind everyRow)
 
 abbrev pub outside : ℕ → ℕ → ℕ → Bool
 outside least most x = pick (ltb x least) true (ltb most x)
@@ -74,45 +70,28 @@ misplaced kind first own left standing =
     (pick (eqb kind 9) (markerFault standing)
     0))
 
--- how many constructs a record owns, by its form
-abbrev pub childrenBy : Form → ℕ → ℕ
-childrenBy f first = pick (f .listed) (f .children + first) (f .children)
-
--- a refusal by its number, where 0 is none
-abbrev pub unless : ℕ → ℕ → Head → Head
-unless fault start good = pick (eqb fault 0) good (Refused fault start)
-
--- a judged record as the callers see it; no record, by a refusal's number
-abbrev pub toldOf : Judged → ℕ → Head
-toldOf j start =
-    unless (j .fault) start (Good (record { kind = j .kind; first = j .first; second = j .second; children = j .children; next = j .next }))
-
-abbrev pub badAt : Cursor → ℕ → Judged
-badAt c fault = record { fault = fault; kind = 0; first = 0; second = 0; children = 0; next = c }
-
 -- from the fields on
-abbrev pub withFields : Cursor → ℕ → Form → ℕ → ℕ → ℕ → Fields → Judged
-withFields c kind f own left standing fields.Cut = badAt c 3
-withFields c kind f own left standing (fields.All first second next) =
-    pick (isOutside f first second) (badAt c 6) (record {
-      fault = misplaced kind first own left standing;
-      kind = kind;
-      first = first;
-      second = second;
-      children = childrenBy f first;
-      next = next;
-    })
+abbrev pub withFields : ℕ → Form → ℕ → ℕ → ℕ → Fields → Fit
+withFields kind f own left standing fields.Cut = Bad 3
+withFields kind f own left standing (fields.All first second next) =
+    let fault = misplaced kind first own left standing in
+    pick (isOutside f first second) (Bad 6) (pick (eqb fault 0) (Good first second next) (Bad fault))
 
 -- from the length on
-unfoldable pub judgeOf : List ℕ → Cursor → ℕ → ℕ → Form → ℕ → ℕ → ℕ → Judged
-judgeOf s c kind size f own left standing =
-    pick (eqb size (f .length)) (withFields c kind f own left standing (fieldsAt s (c .at) (eqb (f .length) 12))) (badAt c 5)
+unfoldable pub judgeOf : List ℕ → ℕ → ℕ → ℕ → Form → ℕ → ℕ → ℕ → Fit
+judgeOf s at kind size f own left standing =
+    pick (eqb size (f .length)) (withFields kind f own left standing (fieldsAt s at (eqb (f .length) 12))) (Bad 5)
+
+-- a judged record as the callers see it; a refusal's place is the record's start
+abbrev pub onFit : {A : Type 0} → (ℕ → ℕ → A) → (ℕ → ℕ → ℕ → Cursor → A) → ℕ → ℕ → Fit → A
+onFit refuses good kind start (Good first second next) = good kind first second next
+onFit refuses good kind start (Bad fault) = refuses fault start
 
 -- from the length and the kind on, which are read as one field, where only this kind is owed
 abbrev pub withOnly : List ℕ → ℕ → ℕ → Field → Head
 withOnly s kind start field.Cut = Refused 3 start
 withOnly s kind start (field.Value head c) =
-    pick (eqb (head / 65536) kind) (toldOf (judgeOf s c kind (head % 65536) (formOf kind) 0 1 0) start) (Refused 4 start)
+    pick (eqb (head / 65536) kind) (onFit Refused asRead kind start (judgeOf s (c .at) kind (head % 65536) (formOf kind) 0 1 0)) (Refused 4 start)
 
 unfoldable pub onlyOf : List ℕ → ℕ → ℕ → Head
 onlyOf s kind start = withOnly s kind start (fieldAt s start)

@@ -1,23 +1,20 @@
 // One record of a sheet: read at a cursor, and judged by what is owed there.
 ghost use mathlib.Core.Path.{_≡_};
-ghost use mathlib.Core.Bool.{true};
-ghost use Prim.Native.Nat.{_+_, _≤_, _<_};
+ghost use Prim.Native.Nat.{_≤_, _<_};
 ghost use lib.ListN.{length};
 ghost use Rattle.meaning.specs.Judgement.{sheet, routine, judged};
 ghost use Rattle.records.specs.Records.{constructAs, headOf, foundOf, leafOf};
-ghost use Rattle.records.specs.Steps.{fieldAt, fieldsAt, formOf, isOutside, isBadCall, misplaced, markerFault, childrenBy, badAt, toldOf, judgeOf, onlyOf};
+ghost use Rattle.records.specs.Steps.{fieldAt, fieldsAt, formOf, isOutside, isBadCall, misplaced, markerFault, judgeOf, onlyOf};
 
 // The reading place, handed from one record to the next by value.
 pub struct Cursor {
     pub at: usize,
 }
 
-// A good record: its kind, its fields (0 for a second one that it does not have), how many constructs it owns, and the cursor past it.
+// A good record: its fields (0 for a second one that it does not have) and the cursor past it.
 pub struct Read {
-    pub kind: u64,
     pub first: u64,
     pub second: u64,
-    pub children: u64,
     pub next: Cursor,
 }
 
@@ -47,16 +44,13 @@ pub enum Leaf {
     Other,
 }
 
-// What the table says of a kind: the length, the ranges of the fields, and how many constructs follow;
-// where `listed` is set, as many more as the first field says.
+// What the table says of a kind: the length and the ranges of the fields.
 pub(crate) struct Form {
     pub length: u64,
     pub least: u64,
     pub most: u64,
     pub least2: u64,
     pub most2: u64,
-    pub children: u64,
-    pub listed: bool,
 }
 
 // A field and the cursor past it, or the sheet ends inside it.
@@ -71,14 +65,10 @@ pub(crate) enum Fields {
     Cut,
 }
 
-// A record that is judged: a refusal's number, or 0 and what a good record has.
-pub(crate) struct Judged {
-    pub fault: u64,
-    pub kind: u64,
-    pub first: u64,
-    pub second: u64,
-    pub children: u64,
-    pub next: Cursor,
+// A record of a kind, judged: its fields (0 for a second one that it does not have) and the cursor past it, or a refusal's number.
+pub(crate) enum Fit {
+    Good(u64, u64, Cursor),
+    Bad(u64),
 }
 
 // Where a record stands: its routine's number, the depths left, and how it stands to a scope.
@@ -95,16 +85,8 @@ fn wide(b: u8) -> u64
 }
 
 // A row of the table by its columns, so that each kind is one line.
-fn row(
-    length: u64,
-    least: u64,
-    most: u64,
-    least2: u64,
-    most2: u64,
-    children: u64,
-    listed: bool,
-) -> Form
-    ensures { λ r. ⌜ r ≡ record { length = length; least = least; most = most; least2 = least2; most2 = most2; children = children; listed = listed } ⌝ }
+fn row(length: u64, least: u64, most: u64, least2: u64, most2: u64) -> Form
+    ensures { λ r. ⌜ r ≡ record { length = length; least = least; most = most; least2 = least2; most2 = most2 } ⌝ }
 {
     Form {
         length,
@@ -112,8 +94,6 @@ fn row(
         most,
         least2,
         most2,
-        children,
-        listed,
     }
 }
 
@@ -173,56 +153,6 @@ fn misplaced(kind: u64, first: u64, own: u64, left: u64, standing: u64) -> u64
     0
 }
 
-// How many constructs a record owns.
-fn children_of(f: Form, first: u64) -> u64
-    requires { ⌜ (f .listed ≡ true → f .children + first ≤ 1000) ⌝ }
-    ensures { λ r. ⌜ r ≡ childrenBy f first ⌝ }
-{
-    if f.listed {
-        return f.children + first;
-    }
-    f.children
-}
-
-// A judged record as the callers see it; a refusal's place is the record's start.
-fn told(j: Judged, start: usize) -> Head
-    ensures { λ r. ⌜ r ≡ toldOf j start ⌝ }
-{
-    if j.fault != 0 {
-        return Head::Refused(j.fault, start);
-    }
-    let next = j.next;
-    Head::Good(Read {
-        kind: j.kind,
-        first: j.first,
-        second: j.second,
-        children: j.children,
-        next,
-    })
-}
-
-// A judged construct as the callers see it, by its kind: where that is a constant, no test is left.
-fn by_kind(j: Judged, start: usize) -> Found
-    ensures { λ r. ⌜ r ≡ foundOf (toldOf j start) ⌝ }
-{
-    if j.fault != 0 {
-        return Found::Refused(j.fault, start);
-    }
-    let kind = j.kind;
-    let first = j.first;
-    let next = j.next;
-    match kind {
-        2 => Found::Primitive(first, next),
-        3 => Found::Sequence(first, next),
-        4 => Found::Alternative(first, next),
-        5 => Found::HeadLoop(first, j.second, next),
-        6 => Found::TailLoop(first, j.second, next),
-        7 => Found::TimedLoop(first, next),
-        8 => Found::Call(first, next),
-        _ => Found::Marker(first, j.second, next),
-    }
-}
-
 impl Cursor {
     // Four bytes, little-endian. The sheet's end is tested before each.
     fn word(self, s: &[u8]) -> Field
@@ -270,42 +200,25 @@ impl Cursor {
         Fields::All(first, 0, c)
     }
 
-    // No record: a refusal's number.
-    fn bad(self, fault: u64) -> Judged
-        ensures { λ r. ⌜ r ≡ badAt self fault ⌝ }
-    {
-        Judged {
-            fault,
-            kind: 0,
-            first: 0,
-            second: 0,
-            children: 0,
-            next: self,
-        }
-    }
-
     // The rest of a record of this kind, whose row is f, from its length on.
-    fn judge(self, s: &[u8], kind: u64, size: u64, f: Form, p: Place) -> Judged
+    fn judge(self, s: &[u8], kind: u64, size: u64, f: Form, p: Place) -> Fit
         requires { ⌜ (self .at ≤ length (now s)) × (f ≡ formOf kind) ⌝ }
-        ensures { λ r. ⌜ r ≡ judgeOf (now (s .entry)) self kind size (formOf kind) (p .own) (p .left) (p .standing) ⌝ }
+        ensures { λ r. ⌜ r ≡ judgeOf (now (s .entry)) (self .at) kind size (formOf kind) (p .own) (p .left) (p .standing) ⌝ }
     {
         if size != f.length {
-            return self.bad(5);
+            return Fit::Bad(5);
         }
         let Fields::All(first, second, next) = self.fields(s, f.length == 12) else {
-            return self.bad(3);
+            return Fit::Bad(3);
         };
         if is_outside(f, first, second) {
-            return self.bad(6);
+            return Fit::Bad(6);
         }
-        Judged {
-            fault: misplaced(kind, first, p.own, p.left, p.standing),
-            kind,
-            first,
-            second,
-            children: children_of(f, first),
-            next,
+        let fault = misplaced(kind, first, p.own, p.left, p.standing);
+        if fault != 0 {
+            return Fit::Bad(fault);
         }
+        Fit::Good(first, second, next)
     }
 
     // The record at the cursor where only this kind is owed, which is neither a call nor a marker, by its row.
@@ -328,27 +241,34 @@ impl Cursor {
             left: 1,
             standing: 0,
         };
-        told(c.judge(s, kind, head % 65536, f, p), start)
+        match c.judge(s, kind, head % 65536, f, p) {
+            Fit::Good(first, second, next) => Head::Good(Read {
+                first,
+                second,
+                next,
+            }),
+            Fit::Bad(fault) => Head::Refused(fault, start),
+        }
     }
 
     // The sheet record at the cursor, judged, with the cursor past it.
     pub fn sheet(self, s: &[u8]) -> Head
         ensures { λ r. ⌜ r ≡ headOf (judged (now (s .entry)) sheet (self .at)) ⌝ }
     {
-        self.only(s, 100, row(12, 1, 1, 1, 64, 0, false))
+        self.only(s, 100, row(12, 1, 1, 1, 64))
     }
 
     // The routine record at the cursor, judged, with the cursor past it.
     pub fn routine(self, s: &[u8]) -> Head
         ensures { λ r. ⌜ r ≡ headOf (judged (now (s .entry)) routine (self .at)) ⌝ }
     {
-        self.only(s, 1, row(8, 0, 4294967295, 0, 0, 1, false))
+        self.only(s, 1, row(8, 0, 4294967295, 0, 0))
     }
 
     // The construct's record at the cursor, judged, by its kind, with the cursor past it.
     // own: its routine's number; left: the depths left; standing: how it stands to a scope (Records.reachOf).
     pub fn construct(self, s: &[u8], own: u64, left: u64, standing: u64) -> Found
-        ensures { λ r. ⌜ r ≡ foundOf (headOf (judged (now (s .entry)) (constructAs own left standing) (self .at))) ⌝ }
+        ensures { λ r. ⌜ r ≡ foundOf (judged (now (s .entry)) (constructAs own left standing) (self .at)) ⌝ }
     {
         let start = self.at;
         if s.len() < start {
@@ -364,50 +284,54 @@ impl Cursor {
             left,
             standing,
         };
-        // kind, and in its row: length, least and most of the first field, least and most of the second, children, listed
+        // kind, and in its row: length, least and most of the first field, least and most of the second
         match kind {
-            2 => by_kind(
-                c.judge(s, 2, size, row(8, 0, 4294967295, 0, 0, 0, false), p),
-                start,
-            ),
-            3 => by_kind(
-                c.judge(s, 3, size, row(8, 0, 1000, 0, 0, 0, true), p),
-                start,
-            ),
-            4 => by_kind(c.judge(s, 4, size, row(8, 2, 256, 0, 0, 1, true), p), start),
-            5 => by_kind(
-                c.judge(s, 5, size, row(12, 0, 1000000, 0, 1, 4, false), p),
-                start,
-            ),
-            6 => by_kind(
-                c.judge(s, 6, size, row(12, 1, 1000000, 0, 1, 3, false), p),
-                start,
-            ),
-            7 => by_kind(
-                c.judge(s, 7, size, row(8, 0, 4294967295, 0, 0, 1, false), p),
-                start,
-            ),
-            8 => by_kind(
-                c.judge(s, 8, size, row(8, 0, 4294967295, 0, 0, 0, false), p),
-                start,
-            ),
-            9 => by_kind(
-                c.judge(s, 9, size, row(12, 0, 1000000, 0, 4294967295, 0, false), p),
-                start,
-            ),
+            2 => match c.judge(s, 2, size, row(8, 0, 4294967295, 0, 0), p) {
+                Fit::Good(cost, _, next) => Found::Primitive(cost, next),
+                Fit::Bad(fault) => Found::Refused(fault, start),
+            },
+            3 => match c.judge(s, 3, size, row(8, 0, 1000, 0, 0), p) {
+                Fit::Good(n, _, next) => Found::Sequence(n, next),
+                Fit::Bad(fault) => Found::Refused(fault, start),
+            },
+            4 => match c.judge(s, 4, size, row(8, 2, 256, 0, 0), p) {
+                Fit::Good(n, _, next) => Found::Alternative(n, next),
+                Fit::Bad(fault) => Found::Refused(fault, start),
+            },
+            5 => match c.judge(s, 5, size, row(12, 0, 1000000, 0, 1), p) {
+                Fit::Good(count, scope, next) => Found::HeadLoop(count, scope, next),
+                Fit::Bad(fault) => Found::Refused(fault, start),
+            },
+            6 => match c.judge(s, 6, size, row(12, 1, 1000000, 0, 1), p) {
+                Fit::Good(count, scope, next) => Found::TailLoop(count, scope, next),
+                Fit::Bad(fault) => Found::Refused(fault, start),
+            },
+            7 => match c.judge(s, 7, size, row(8, 0, 4294967295, 0, 0), p) {
+                Fit::Good(time, _, next) => Found::TimedLoop(time, next),
+                Fit::Bad(fault) => Found::Refused(fault, start),
+            },
+            8 => match c.judge(s, 8, size, row(8, 0, 4294967295, 0, 0), p) {
+                Fit::Good(number, _, next) => Found::Call(number, next),
+                Fit::Bad(fault) => Found::Refused(fault, start),
+            },
+            9 => match c.judge(s, 9, size, row(12, 0, 1000000, 0, 4294967295), p) {
+                Fit::Good(limit, cost, next) => Found::Marker(limit, cost, next),
+                Fit::Bad(fault) => Found::Refused(fault, start),
+            },
             _ => Found::Refused(4, start),
         }
     }
 
     // The record at the cursor where it is good and owns nothing. Its head is the length and the kind at once: 8 and 2, 8 and 8, 12 and 9.
     pub fn leaf(self, s: &[u8], own: u64, left: u64, standing: u64) -> Leaf
-        ensures { λ r. ⌜ r ≡ leafOf (foundOf (headOf (judged (now (s .entry)) (constructAs own left standing) (self .at)))) ⌝ }
+        ensures { λ r. ⌜ r ≡ leafOf (foundOf (judged (now (s .entry)) (constructAs own left standing) (self .at))) ⌝ }
     {
         let at = self.at;
-        if s.len() < at {
+        // the end of the last record that is 8 long: the same for a whole list
+        if s.len() < 8 {
             return Leaf::Other;
         }
-        if s.len() - at < 8 {
+        if s.len() - 8 < at {
             return Leaf::Other;
         }
         if left == 0 {

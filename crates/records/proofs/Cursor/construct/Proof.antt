@@ -11,9 +11,10 @@ use Rattle.meaning.specs.Format.{constructRows, listed, rangesOf}
 use Rattle.records.specs.declared.Cursor.{Cursor}
 use Rattle.records.specs.declared.Field.the-variants as field
 use Rattle.records.specs.declared.Found.{Found}
-use Rattle.records.specs.declared.Judged.{Judged}
-use Rattle.records.specs.Records.{childrenOf, foundOf}
-use Rattle.records.specs.Steps.{fieldAt, formOf, judgeOf, toldOf}
+use Rattle.records.specs.declared.Found.the-variants as found
+use Rattle.records.specs.declared.Fit.{Fit}
+use Rattle.records.specs.Records.{byKind}
+use Rattle.records.specs.Steps.{fieldAt, formOf, judgeOf, onFit}
 use Rattle.records.proofs.Judging.{AsOwed, construct-cut, construct-arm, construct-none}
 use Rattle.records.proofs.Laws.{field-short, field-past}
 use Rattle.records.proofs.Table.{_&_, in-no-row}
@@ -63,127 +64,216 @@ module _ (c : tie.After-known-told) where
   abbrev Owed : Found → Type 0
   Owed = AsOwed (start .args .s .now) (start .args .own) (start .args .left) (start .args .standing) (start .args .self .at)
 
-  arm : (kind : ℕ) → listed kind constructRows ≡ true → head / 65536 ≡ kind → {j : Judged} →
-      j ≡ judgeOf (start .args .s .now) rest kind (head % 65536) (formOf kind) (start .args .own) (start .args .left) (start .args .standing) →
-      {f : Found} → f ≡ foundOf (toldOf j (start .args .self .at)) → Owed f
+  arm : (kind : ℕ) → listed kind constructRows ≡ true → head / 65536 ≡ kind → {j : Fit} →
+      j ≡ judgeOf (start .args .s .now) (rest .at) kind (head % 65536) (formOf kind) (start .args .own) (start .args .left) (start .args .standing) →
+      Owed (onFit found.Refused byKind kind (start .args .self .at) j)
   arm = construct-arm _ (start .args .own) (start .args .left) (start .args .standing) _ bytes _ _ read
 
 row-requires : tie.Need-row-requires
 row-requires c κs = search needs
 
 judge-requires : tie.Need-judge-requires
-unfolding formOf rangesOf childrenOf
+unfolding formOf rangesOf
 judge-requires c κs = (past (c .before .before), c .row .ensures)
 
-by-kind-requires : tie.Need-by-kind-requires
-by-kind-requires c κs = search needs
+enum-known-cost : tie.Need-enum-known-cost
+enum-known-cost c = search needs
+
+enum-known-fault : tie.Need-enum-known-fault
+enum-known-fault c = search needs
 
 row-requires-2 : tie.Need-row-requires-2
 row-requires-2 c κs = search needs
 
 judge-requires-2 : tie.Need-judge-requires-2
-unfolding formOf rangesOf childrenOf
+unfolding formOf rangesOf
 judge-requires-2 c κs = (past (c .before .before), c .row2 .ensures)
 
-by-kind-requires-2 : tie.Need-by-kind-requires-2
-by-kind-requires-2 c κs = search needs
+enum-known-n : tie.Need-enum-known-n
+enum-known-n c = search needs
+
+enum-known-fault-2 : tie.Need-enum-known-fault-2
+enum-known-fault-2 c = search needs
 
 row-requires-3 : tie.Need-row-requires-3
 row-requires-3 c κs = search needs
 
 judge-requires-3 : tie.Need-judge-requires-3
-unfolding formOf rangesOf childrenOf
+unfolding formOf rangesOf
 judge-requires-3 c κs = (past (c .before .before), c .row3 .ensures)
 
-by-kind-requires-3 : tie.Need-by-kind-requires-3
-by-kind-requires-3 c κs = search needs
+enum-known-n-2 : tie.Need-enum-known-n-2
+enum-known-n-2 c = search needs
+
+enum-known-fault-3 : tie.Need-enum-known-fault-3
+enum-known-fault-3 c = search needs
 
 row-requires-4 : tie.Need-row-requires-4
 row-requires-4 c κs = search needs
 
 judge-requires-4 : tie.Need-judge-requires-4
-unfolding formOf rangesOf childrenOf
+unfolding formOf rangesOf
 judge-requires-4 c κs = (past (c .before .before), c .row4 .ensures)
 
-by-kind-requires-4 : tie.Need-by-kind-requires-4
-by-kind-requires-4 c κs = search needs
+enum-known-count : tie.Need-enum-known-count
+enum-known-count c = search needs
+
+enum-known-fault-4 : tie.Need-enum-known-fault-4
+enum-known-fault-4 c = search needs
 
 row-requires-5 : tie.Need-row-requires-5
 row-requires-5 c κs = search needs
 
 judge-requires-5 : tie.Need-judge-requires-5
-unfolding formOf rangesOf childrenOf
+unfolding formOf rangesOf
 judge-requires-5 c κs = (past (c .before .before), c .row5 .ensures)
 
-by-kind-requires-5 : tie.Need-by-kind-requires-5
-by-kind-requires-5 c κs = search needs
+enum-known-count-2 : tie.Need-enum-known-count-2
+enum-known-count-2 c = search needs
+
+enum-known-fault-5 : tie.Need-enum-known-fault-5
+enum-known-fault-5 c = search needs
 
 row-requires-6 : tie.Need-row-requires-6
 row-requires-6 c κs = search needs
 
 judge-requires-6 : tie.Need-judge-requires-6
-unfolding formOf rangesOf childrenOf
+unfolding formOf rangesOf
 judge-requires-6 c κs = (past (c .before .before), c .row6 .ensures)
 
-by-kind-requires-6 : tie.Need-by-kind-requires-6
-by-kind-requires-6 c κs = search needs
+enum-known-time : tie.Need-enum-known-time
+enum-known-time c = search needs
+
+enum-known-fault-6 : tie.Need-enum-known-fault-6
+enum-known-fault-6 c = search needs
 
 row-requires-7 : tie.Need-row-requires-7
 row-requires-7 c κs = search needs
 
 judge-requires-7 : tie.Need-judge-requires-7
-unfolding formOf rangesOf childrenOf
+unfolding formOf rangesOf
 judge-requires-7 c κs = (past (c .before .before), c .row7 .ensures)
 
-by-kind-requires-7 : tie.Need-by-kind-requires-7
-by-kind-requires-7 c κs = search needs
+enum-known-number : tie.Need-enum-known-number
+enum-known-number c = search needs
+
+enum-known-fault-7 : tie.Need-enum-known-fault-7
+enum-known-fault-7 c = search needs
 
 row-requires-8 : tie.Need-row-requires-8
 row-requires-8 c κs = search needs
 
 judge-requires-8 : tie.Need-judge-requires-8
-unfolding formOf rangesOf childrenOf
+unfolding formOf rangesOf
 judge-requires-8 c κs = (past (c .before .before), c .row8 .ensures)
 
-by-kind-requires-8 : tie.Need-by-kind-requires-8
-by-kind-requires-8 c κs = search needs
+enum-known-limit : tie.Need-enum-known-limit
+enum-known-limit c = search needs
+
+enum-known-fault-8 : tie.Need-enum-known-fault-8
+enum-known-fault-8 c = search needs
 
 returns-3 : tie.Need-returns-3
 unfolding listed
-returns-3 c = arm (c .before .before .before .before) 2 refl (c .before .before .before .match2 .keys1) (c .before .judge .ensures) (c .by-kind .ensures)
+returns-3 c =
+    let judged = c .before .before .before in
+    arm (judged .before .before .before) 2 refl (judged .before .before .match2 .keys1) (sym (c .before .cost .given .1) ∙ judged .judge .ensures)
 
 returns-4 : tie.Need-returns-4
 unfolding listed
-returns-4 c = arm (c .before .before .before .before) 3 refl (c .before .before .before .match2 .keys2) (c .before .judge2 .ensures) (c .by-kind2 .ensures)
+returns-4 c =
+    let judged = c .before .before .before in
+    arm (judged .before .before .before) 2 refl (judged .before .before .match2 .keys1) (sym (c .before .fault .given .1) ∙ judged .judge .ensures)
 
 returns-5 : tie.Need-returns-5
 unfolding listed
-returns-5 c = arm (c .before .before .before .before) 4 refl (c .before .before .before .match2 .keys3) (c .before .judge3 .ensures) (c .by-kind3 .ensures)
+returns-5 c =
+    let judged = c .before .before .before in
+    arm (judged .before .before .before) 3 refl (judged .before .before .match2 .keys2) (sym (c .before .n .given .1) ∙ judged .judge2 .ensures)
 
 returns-6 : tie.Need-returns-6
 unfolding listed
-returns-6 c = arm (c .before .before .before .before) 5 refl (c .before .before .before .match2 .keys4) (c .before .judge4 .ensures) (c .by-kind4 .ensures)
+returns-6 c =
+    let judged = c .before .before .before in
+    arm (judged .before .before .before) 3 refl (judged .before .before .match2 .keys2) (sym (c .before .fault2 .given .1) ∙ judged .judge2 .ensures)
 
 returns-7 : tie.Need-returns-7
 unfolding listed
-returns-7 c = arm (c .before .before .before .before) 6 refl (c .before .before .before .match2 .keys5) (c .before .judge5 .ensures) (c .by-kind5 .ensures)
+returns-7 c =
+    let judged = c .before .before .before in
+    arm (judged .before .before .before) 4 refl (judged .before .before .match2 .keys3) (sym (c .before .n2 .given .1) ∙ judged .judge3 .ensures)
 
 returns-8 : tie.Need-returns-8
 unfolding listed
-returns-8 c = arm (c .before .before .before .before) 7 refl (c .before .before .before .match2 .keys6) (c .before .judge6 .ensures) (c .by-kind6 .ensures)
+returns-8 c =
+    let judged = c .before .before .before in
+    arm (judged .before .before .before) 4 refl (judged .before .before .match2 .keys3) (sym (c .before .fault3 .given .1) ∙ judged .judge3 .ensures)
 
 returns-9 : tie.Need-returns-9
 unfolding listed
-returns-9 c = arm (c .before .before .before .before) 8 refl (c .before .before .before .match2 .keys7) (c .before .judge7 .ensures) (c .by-kind7 .ensures)
+returns-9 c =
+    let judged = c .before .before .before in
+    arm (judged .before .before .before) 5 refl (judged .before .before .match2 .keys4) (sym (c .before .count .given .1) ∙ judged .judge4 .ensures)
 
 returns-10 : tie.Need-returns-10
 unfolding listed
-returns-10 c = arm (c .before .before .before .before) 9 refl (c .before .before .before .match2 .keys8) (c .before .judge8 .ensures) (c .by-kind8 .ensures)
+returns-10 c =
+    let judged = c .before .before .before in
+    arm (judged .before .before .before) 5 refl (judged .before .before .match2 .keys4) (sym (c .before .fault4 .given .1) ∙ judged .judge4 .ensures)
 
 returns-11 : tie.Need-returns-11
+unfolding listed
 returns-11 c =
+    let judged = c .before .before .before in
+    arm (judged .before .before .before) 6 refl (judged .before .before .match2 .keys5) (sym (c .before .count2 .given .1) ∙ judged .judge5 .ensures)
+
+returns-12 : tie.Need-returns-12
+unfolding listed
+returns-12 c =
+    let judged = c .before .before .before in
+    arm (judged .before .before .before) 6 refl (judged .before .before .match2 .keys5) (sym (c .before .fault5 .given .1) ∙ judged .judge5 .ensures)
+
+returns-13 : tie.Need-returns-13
+unfolding listed
+returns-13 c =
+    let judged = c .before .before .before in
+    arm (judged .before .before .before) 7 refl (judged .before .before .match2 .keys6) (sym (c .before .time .given .1) ∙ judged .judge6 .ensures)
+
+returns-14 : tie.Need-returns-14
+unfolding listed
+returns-14 c =
+    let judged = c .before .before .before in
+    arm (judged .before .before .before) 7 refl (judged .before .before .match2 .keys6) (sym (c .before .fault6 .given .1) ∙ judged .judge6 .ensures)
+
+returns-15 : tie.Need-returns-15
+unfolding listed
+returns-15 c =
+    let judged = c .before .before .before in
+    arm (judged .before .before .before) 8 refl (judged .before .before .match2 .keys7) (sym (c .before .number .given .1) ∙ judged .judge7 .ensures)
+
+returns-16 : tie.Need-returns-16
+unfolding listed
+returns-16 c =
+    let judged = c .before .before .before in
+    arm (judged .before .before .before) 8 refl (judged .before .before .match2 .keys7) (sym (c .before .fault7 .given .1) ∙ judged .judge7 .ensures)
+
+returns-17 : tie.Need-returns-17
+unfolding listed
+returns-17 c =
+    let judged = c .before .before .before in
+    arm (judged .before .before .before) 9 refl (judged .before .before .match2 .keys8) (sym (c .before .limit .given .1) ∙ judged .judge8 .ensures)
+
+returns-18 : tie.Need-returns-18
+unfolding listed
+returns-18 c =
+    let judged = c .before .before .before in
+    arm (judged .before .before .before) 9 refl (judged .before .before .match2 .keys8) (sym (c .before .fault8 .given .1) ∙ judged .judge8 .ensures)
+
+returns-19 : tie.Need-returns-19
+returns-19 c =
     let r = c .match2 .rest in
-    let others = r .0 .0 .0 .0 .0 .0 .0 .1 & r .0 .0 .0 .0 .0 .0 .1 & r .0 .0 .0 .0 .0 .1 & r .0 .0 .0 .0 .1 & r .0 .0 .0 .1 & r .0 .0 .1 & r .0 .1 & r .1 & tt in
+    let first = r .0 .0 .0 .0 in
+    let others = first .0 .0 .0 .1 & first .0 .0 .1 & first .0 .1 & first .1 & r .0 .0 .0 .1 & r .0 .0 .1 & r .0 .1 & r .1 & tt in
     let args = start (c .before) .args in
     construct-none _ (args .own) (args .left) (args .standing) _ (bytes (c .before)) _ _ (read (c .before)) (in-no-row _ constructRows others)
 
@@ -198,28 +288,36 @@ construct-spec =
     returns-2
     row-requires
     judge-requires
-    by-kind-requires
+    enum-known-cost
+    enum-known-fault
     row-requires-2
     judge-requires-2
-    by-kind-requires-2
+    enum-known-n
+    enum-known-fault-2
     row-requires-3
     judge-requires-3
-    by-kind-requires-3
+    enum-known-n-2
+    enum-known-fault-3
     row-requires-4
     judge-requires-4
-    by-kind-requires-4
+    enum-known-count
+    enum-known-fault-4
     row-requires-5
     judge-requires-5
-    by-kind-requires-5
+    enum-known-count-2
+    enum-known-fault-5
     row-requires-6
     judge-requires-6
-    by-kind-requires-6
+    enum-known-time
+    enum-known-fault-6
     row-requires-7
     judge-requires-7
-    by-kind-requires-7
+    enum-known-number
+    enum-known-fault-7
     row-requires-8
     judge-requires-8
-    by-kind-requires-8
+    enum-known-limit
+    enum-known-fault-8
     returns-3
     returns-4
     returns-5
@@ -228,4 +326,12 @@ construct-spec =
     returns-8
     returns-9
     returns-10
-    returns-11)
+    returns-11
+    returns-12
+    returns-13
+    returns-14
+    returns-15
+    returns-16
+    returns-17
+    returns-18
+    returns-19)

@@ -1,9 +1,10 @@
 -- `Cursor::only` judges a record where one kind is owed: what each step returned is what `withOnly` says of it.
-use mathlib.Core.Path.{sym, ap, _∙_}
+use mathlib.Core.Path.{_≡_, sym, ap, _∙_}
 use native.Mathlib.Omega.{arith}
 use borrow.Author.Tests.{eq-eqb, ne-eqb}
 use borrow.Author.Needs.{needs}
-use Rattle.records.specs.Steps.{withOnly, onlyOf}
+use Rattle.records.specs.declared.Field.the-variants as field
+use Rattle.records.specs.Steps.{fieldAt, withOnly, onlyOf}
 use Rattle.records.proofs.Laws.{field-short, field-past}
 use Rattle.records.proofs.Cursor.only.Statement.{statement}
 use Rattle.records.proofs.Cursor.only.Tie as tie
@@ -25,28 +26,38 @@ returns-2 : tie.Need-returns-2
 unfolding onlyOf
 returns-2 c = rw (sym (c .before .before .word .ensures) ∙ c .enum-told .given .1)
 
+-- once the head is read
+module _ (c : tie.After-known-told) where
+  abbrev start : tie.Start
+  start = c .before .before .before .before .before .before
+
+  read : fieldAt (start .args .s .now) (start .args .self .at) ≡ field.Value (c .before .head .given .0 .0) (c .before .head .given .0 .1 .0)
+  read = sym (c .before .before .before .word .ensures) ∙ c .before .head .given .1
+
 returns-3 : tie.Need-returns-3
 unfolding onlyOf
-returns-3 c = rw (sym (c .before .before .before .before .word .ensures) ∙ c .before .before .head .given .1, ne-eqb _ _ (c .if2 .taken))
+returns-3 c = rw (read (c .before), ne-eqb _ _ (c .if2 .taken))
 
 judge-requires : tie.Need-judge-requires
-judge-requires c κs =
-    let word = c .before .before .before .before in
-    (field-past _ _ (sym (word .word .ensures) ∙ c .before .before .head .given .1), word .before .before .before .pre)
+judge-requires c κs = (field-past _ _ (read (c .before)), start (c .before) .pre)
 
-told-requires : tie.Need-told-requires
-told-requires c κs = search needs
+enum-known-first : tie.Need-enum-known-first
+enum-known-first c = search needs
+
+enum-known-fault : tie.Need-enum-known-fault
+enum-known-fault c = search needs
 
 returns-4 : tie.Need-returns-4
 unfolding onlyOf
 returns-4 c =
-    let whole = c .before .before .before .before in
-    rw (
-      sym (whole .before .before .word .ensures) ∙ whole .head .given .1,
-      eq-eqb _ _ (c .before .before .if2 .left),
-      c .told .ensures,
-      c .before .judge .ensures,
-    )
+    let judged = c .before .before .before in
+    rw (read (judged .before .before), eq-eqb _ _ (judged .before .if2 .left), sym (judged .judge .ensures) ∙ c .before .first .given .1)
+
+returns-5 : tie.Need-returns-5
+unfolding onlyOf
+returns-5 c =
+    let judged = c .before .before .before in
+    rw (read (judged .before .before), eq-eqb _ _ (judged .before .if2 .left), sym (judged .judge .ensures) ∙ c .before .fault .given .1)
 
 pub only-spec : {M : Type 1} → statement M
 only-spec =
@@ -59,5 +70,7 @@ only-spec =
     returns-2
     returns-3
     judge-requires
-    told-requires
-    returns-4)
+    enum-known-first
+    enum-known-fault
+    returns-4
+    returns-5)

@@ -2,7 +2,6 @@
 use mathlib.Core.Path.{_∙_}
 use borrow.Author.Needs.{needs}
 use Rattle.meaning.specs.Format.{rangesOf}
-use Rattle.records.specs.Records.{childrenOf}
 use Rattle.records.specs.Steps.{formOf}
 use Rattle.records.proofs.Judging.{sheet-is}
 use Rattle.records.proofs.Cursor.sheet.Statement.{statement}
@@ -12,7 +11,7 @@ row-requires : tie.Need-row-requires
 row-requires c κs = search needs
 
 only-requires : tie.Need-only-requires
-unfolding formOf rangesOf childrenOf
+unfolding formOf rangesOf
 only-requires c κs = c .row .ensures
 
 returns : tie.Need-returns
