@@ -1,10 +1,11 @@
-/* The calculator of document 01 in plain C, written to be fast under gcc -O3: one pass, recursion along the nesting, no heap.
+/* The calculator of document 01 in plain C, written to be fast under gcc -O3 and clang -O3: one pass, recursion along the nesting, no heap.
  * It tests of a good record as little as it can; what is wrong with a bad one is found out off that way, in the cold functions. */
 #include "plain.h"
 
 #include <string.h>
 
 #define COLD __attribute__((cold, noinline))
+#define INLINE inline __attribute__((always_inline)) /* what is left to the compiler is inlined by neither of them everywhere */
 
 /* Length and kind of a record are read and compared as one number. */
 #define HEAD(kind, length) ((uint32_t)(kind) << 16 | (length))
@@ -88,10 +89,10 @@ static inline struct part ended(struct reader *r, const uint8_t *start, const ui
     return (struct part){next, value > LIMIT ? too_big(r, start) : value};
 }
 
-static inline struct part construct(struct reader *r, const uint8_t *p, unsigned left, enum standing standing);
+static INLINE struct part construct(struct reader *r, const uint8_t *p, unsigned left, enum standing standing);
 
 /* Reads the construct after c in its place; whether it was good. */
-static inline int is_read(struct reader *r, struct part *c, unsigned left, enum standing standing)
+static INLINE int is_read(struct reader *r, struct part *c, unsigned left, enum standing standing)
 {
     *c = construct(r, c->next, left, standing);
     return c->next != NULL;
@@ -154,7 +155,7 @@ static struct part alternative(struct reader *r, const uint8_t *start, unsigned 
 }
 
 /* The body of a counted loop, after c; adds to paid what its markers add, if the loop is their scope. */
-static inline int is_body_read(struct reader *r, struct part *c, unsigned left, enum standing standing, uint64_t count, uint32_t scope,
+static INLINE int is_body_read(struct reader *r, struct part *c, unsigned left, enum standing standing, uint64_t count, uint32_t scope,
                                uint64_t *paid)
 {
     uint64_t passes = r->passes, added = r->added;
@@ -246,7 +247,7 @@ static struct part marker(struct reader *r, const uint8_t *p, unsigned left, enu
 }
 
 /* Inlined where a construct is read: most are primitives, and take no call then. */
-static inline struct part construct(struct reader *r, const uint8_t *p, unsigned left, enum standing standing)
+static INLINE struct part construct(struct reader *r, const uint8_t *p, unsigned left, enum standing standing)
 {
     uint32_t first;
 
