@@ -2,7 +2,7 @@
 use Prim.Native.Nat.{ℕ, zero, suc, _+_, _≤_}
 use mathlib.Core.Path.{_≡_, refl}
 use mathlib.Core.List.{List}
-use lib.Dec.{ltb, eqb}
+use lib.Dec.{ltb}
 use lib.ListN.{length}
 use native.Mathlib.Omega.{arith}
 use Rattle.records.specs.declared.Cursor.{Cursor}
@@ -16,7 +16,7 @@ use Rattle.reader.specs.declared.Progress.{Progress}
 use Rattle.reader.specs.declared.Report.{Report}
 use Rattle.reader.specs.Tallies.{Parsed, Done, Refused}
 use Rattle.reader.specs.Reader.{recordOf, onHead, onParsed, routineOf, noBounds, boundsWith, progressFrom, progressWith}
-use Rattle.reader.specs.Reader.{refusal, verdictOf, routinesOf, sheetOf, readOf}
+use Rattle.reader.specs.Reader.{routinesOf, sheetOf, readOf}
 use Rattle.reader.proofs.Laws.{picked}
 
 pub record Few (r : Report) : Type 0 where
@@ -32,21 +32,11 @@ few-head : (x : Head) (g : ℕ → ℕ → Report) (f : Read → Report) → ((k
 few-head (head.Refused number place) g f h k = h number place
 few-head (head.Good r) g f h k = k r refl
 
-few-refusal : (long k p : ℕ) (b : Bounds) → b .count ≤ 64 → Few (refusal long k p b)
-unfolding refusal
-few-refusal long k p b h = record { few = h }
-
-few-verdict : (long : ℕ) (b : Bounds) (progress : Progress) → b .count ≤ 64 → Few (verdictOf long b progress)
-unfolding verdictOf
-few-verdict long b progress h =
-    picked Few (ltb (progress .at .at) long) (few-refusal long 11 (progress .at .at) b h) (
-    picked Few (eqb (progress .over) 0) (record { few = h }) (few-refusal long 12 (progress .over) b h))
-
 few-routines : (n : ℕ) (s : List ℕ) (number : ℕ) (b : Bounds) (progress : Progress) → b .count + n ≤ 64 → Few (routinesOf n s number b progress)
 unfolding routinesOf boundsWith
-few-routines zero s number b progress h = few-verdict (length s) b progress (omega arith)
+few-routines zero s number b progress h = record { few = omega arith }
 few-routines (suc n) s number b progress h =
-    few-parsed (routineOf s (b .values) (b .count + 1) (progress .at)) _ _ (λ k p. few-refusal (length s) k p b (omega arith)) (λ v o e m next.
+    few-parsed (routineOf s (b .values) (b .count + 1) (progress .at)) _ _ (λ k p. record { few = omega arith }) (λ v o e m next.
     few-routines n s number (boundsWith b v) (progressWith progress (b .count + 1) number v o next) (omega arith))
 
 none-few : noBounds .count ≤ 0
@@ -57,7 +47,7 @@ pub few-read : (s : List ℕ) (number : ℕ) → Few (readOf s number)
 unfolding readOf sheetOf
 few-read s number =
     let z = none-few in
-    picked Few (ltb 60000 (length s)) (few-refusal (length s) 2 0 noBounds (omega arith)) (
-    few-head (recordOf s sheet (record { at = 0 })) _ _ (λ k p. few-refusal (length s) k p noBounds (omega arith)) (λ r e.
+    picked Few (ltb 60000 (length s)) (record { few = omega arith }) (
+    few-head (recordOf s sheet (record { at = 0 })) _ _ (λ k p. record { few = omega arith }) (λ r e.
     let h = (sheet-fine s e) .few in
     few-routines (r .second) s number noBounds (progressFrom (length s) (r .next)) (omega arith)))

@@ -43,13 +43,17 @@ pub struct Bounds {
     pub count: u64,
 }
 
-// What reading a sheet comes to. An enum holds no array, so the bounds stand beside the answer.
-// start and end: those of the records of the routine that was asked for, or the sheet's end for both.
-pub struct Report {
+// The answer, and where the records of the routine that was asked for start and end, or the sheet's end for both.
+pub struct Outcome {
     pub answer: Answer,
-    pub bounds: Bounds,
     pub start: usize,
     pub end: usize,
+}
+
+// What reading a sheet comes to. An enum holds no array, so the bounds stand beside the answer.
+pub struct Report {
+    pub outcome: Outcome,
+    pub bounds: Bounds,
 }
 
 // A construct that has ended: its value and the cursor past it; or a refusal's number and place.
@@ -731,31 +735,29 @@ impl Progress {
 }
 
 // A refusal, with no part.
-fn refused(long: usize, number: u64, place: usize, bounds: Bounds) -> Report
-    ensures { λ r. ⌜ r ≡ refusal long number place bounds ⌝ }
+fn refused(long: usize, number: u64, place: usize) -> Outcome
+    ensures { λ r. ⌜ r ≡ refusal long number place ⌝ }
 {
-    Report {
+    Outcome {
         answer: Answer::Refused(number, place),
-        bounds,
         start: long,
         end: long,
     }
 }
 
 // EXTRA, then TOO BIG, then the last routine's bound.
-fn verdict(long: usize, bounds: Bounds, progress: Progress) -> Report
-    ensures { λ r. ⌜ r ≡ verdictOf long bounds progress ⌝ }
+fn verdict(long: usize, progress: Progress) -> Outcome
+    ensures { λ r. ⌜ r ≡ verdictOf long progress ⌝ }
 {
     let past = progress.at.at;
     if past < long {
-        return refused(long, 11, past, bounds);
+        return refused(long, 11, past);
     }
     if progress.over != 0 {
-        return refused(long, 12, progress.over, bounds);
+        return refused(long, 12, progress.over);
     }
-    Report {
+    Outcome {
         answer: Answer::Accepted(progress.last),
-        bounds,
         start: progress.start,
         end: progress.end,
     }
@@ -774,7 +776,10 @@ fn routines(s: &[u8], c: Cursor, n: u64, number: u64, marks: &mut [u64]) -> Repo
         let mut aside = nothing_told();
         match routine(s, at, &b.values, own, marks, &mut aside) {
             Parsed::Refused(k, p) => {
-                return refused(s.len(), k, p, b);
+                return Report {
+                    outcome: refused(s.len(), k, p),
+                    bounds: b,
+                };
             }
             Parsed::Value(v, next) => {
                 progress = progress.with(own, number, v, aside[OVER] as usize, next);
@@ -785,7 +790,10 @@ fn routines(s: &[u8], c: Cursor, n: u64, number: u64, marks: &mut [u64]) -> Repo
             }
         }
     }
-    verdict(s.len(), b, progress)
+    Report {
+        outcome: verdict(s.len(), progress),
+        bounds: b,
+    }
 }
 
 // The sheet record, then its routines.
@@ -795,10 +803,10 @@ fn sheet(s: &[u8], number: u64, marks: &mut [u64]) -> Report
 {
     let c = Cursor { at: 0 };
     match c.sheet(s) {
-        Head::Refused(k, p) => {
-            let b = Bounds::none();
-            refused(s.len(), k, p, b)
-        }
+        Head::Refused(k, p) => Report {
+            outcome: refused(s.len(), k, p),
+            bounds: Bounds::none(),
+        },
         Head::Good(r) => {
             let next = r.next;
             routines(s, next, r.second, number, marks)
@@ -829,8 +837,10 @@ pub fn read(s: &[u8], number: u64) -> Report
 {
     let long = s.len();
     if 60000 < long {
-        let b = Bounds::none();
-        return refused(long, 2, 0, b);
+        return Report {
+            outcome: refused(long, 2, 0),
+            bounds: Bounds::none(),
+        };
     }
     if 6400 < long {
         return large(s, number);

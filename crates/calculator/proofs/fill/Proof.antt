@@ -18,7 +18,7 @@ is-accepted-requires c κs = search needs
 
 copy-out-requires : tie.Need-copy-out-requires
 copy-out-requires c κs =
-    let read = c .before .before .before .before in
+    let read = c .before .before .before .before .before in
     (rw (read .read .ensures) (few-read _ 0 .few), read .before .if1 .left)
 
 same-length : tie.Need-same-length
@@ -27,14 +27,14 @@ same-length c = search needs
 returns-2 : tie.Need-returns-2
 returns-2 c =
     let test = c .before .before .before .before .before in
-    let read = test .before .before in
+    let read = test .before .before .before in
     accepts _ (read .before .if1 .left) {report = read .read .result} (rw (read .read .ensures) (read-law _ 0))
     (sym (test .before .is-accepted .ensures) ∙ test .if2 .taken)
     (rw (read .read .ensures) (few-read _ 0 .few)) (c .before .before .copy-out .ensures)
 
 returns-3 : tie.Need-returns-3
 returns-3 c =
-    let read = c .before .before in
+    let read = c .before .before .before in
     refuses _ (read .before .if1 .left) {report = read .read .result} (rw (read .read .ensures) (read-law _ 0))
     (sym (c .before .is-accepted .ensures) ∙ c .if2 .left)
 

@@ -8,7 +8,9 @@ read-requires : tie.Need-read-requires
 read-requires c κs = search needs
 
 returns : tie.Need-returns
-returns c = rw (c .read .ensures) (read-law (c .before .before .args .sheet .now) (c .before .before .args .number) .part)
+returns c =
+    let read = c .before in
+    rw (read .read .ensures) (read-law (read .before .before .args .sheet .now) (read .before .before .args .number) .part)
 
 pub routine-places-spec : {M : Type 1} → statement M
 routine-places-spec = tie.close (tie.spec read-requires returns)

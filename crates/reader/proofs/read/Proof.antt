@@ -5,15 +5,15 @@ use Rattle.reader.specs.Reader.{readOf}
 use Rattle.reader.proofs.read.Statement.{statement}
 use Rattle.reader.proofs.read.Tie as tie
 
-none-requires : tie.Need-none-requires
-none-requires c κs = search needs
-
 refused-requires : tie.Need-refused-requires
 refused-requires c κs = search needs
 
+none-requires : tie.Need-none-requires
+none-requires c κs = search needs
+
 returns : tie.Need-returns
 unfolding readOf
-returns c = rw (c .refused .ensures, c .before .none .ensures, lt-ltb _ _ (c .before .before .if1 .taken))
+returns c = rw (c .before .refused .ensures, c .none .ensures, lt-ltb _ _ (c .before .before .if1 .taken))
 
 large-requires : tie.Need-large-requires
 large-requires c κs = search needs
@@ -43,8 +43,8 @@ pub read-spec : {M : Type 1} → statement M
 read-spec =
     tie.close
     (tie.spec
-    none-requires
     refused-requires
+    none-requires
     returns
     large-requires
     returns-2

@@ -12,11 +12,11 @@ sheet-requires c κs = search needs
 enum-known-k : tie.Need-enum-known-k
 enum-known-k c = search needs
 
-none-requires : tie.Need-none-requires
-none-requires c κs = search needs
-
 refused-requires : tie.Need-refused-requires
 refused-requires c κs = search needs
+
+none-requires : tie.Need-none-requires
+none-requires c κs = search needs
 
 enum-known-r : tie.Need-enum-known-r
 enum-known-r c = search needs
@@ -31,7 +31,7 @@ returns : tie.Need-returns
 returns c =
     let a = c .before .before .before .before .before .before .before .before .args in
     let e = sym (c .before .before .before .before .before .sheet .ensures) ∙ c .before .before .before .k .given .1 in
-    rw (c .refused .ensures, c .before .none .ensures) (sym (sheet-refused (a .s .now) (a .number) e))
+    rw (c .before .refused .ensures, c .none .ensures) (sym (sheet-refused (a .s .now) (a .number) e))
 
 same-length : tie.Need-same-length
 same-length c = search needs
@@ -49,8 +49,8 @@ sheet-spec =
     (tie.spec
     sheet-requires
     enum-known-k
-    none-requires
     refused-requires
+    none-requires
     enum-known-r
     routines-requires
     returns
