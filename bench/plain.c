@@ -5,7 +5,7 @@
 #include <string.h>
 
 #define COLD __attribute__((cold, noinline))
-#define INLINE inline __attribute__((always_inline)) /* what is left to the compiler is inlined by neither of them everywhere */
+#define INLINE inline __attribute__((always_inline)) /* left to themselves, neither compiler inlines these everywhere */
 
 /* Length and kind of a record are read and compared as one number. */
 #define HEAD(kind, length) ((uint32_t)(kind) << 16 | (length))

@@ -10,15 +10,15 @@ use Rattle.meaning.specs.Judgement.{sheetAt}
 use Rattle.meaning.specs.Answer.{refused, judgement, outcome, told, stored, partOf}
 use Rattle.reader.specs.declared.Answer.the-variants.{Accepted}
 use Rattle.reader.specs.declared.Report.{Report}
-use Rattle.reader.specs.Reader.{noBounds, refusal, sheetOf, readOf}
+use Rattle.reader.specs.Reader.{noBounds, refusal, reportOf, sheetOf, readOf}
 use Rattle.reader.specs.Said.{saidOf}
 use Rattle.reader.specs.Reports.{storedOf, partSaid}
 use Rattle.bridge.proofs.Sheets.{Reports, refusal-law, sheet-law}
 
 -- the answer; on acceptance the bounds, as a table is to hold them; the part of the routine that was asked for
 pub record Reported (s : List ℕ) (number : ℕ) (r : Report) : Type 0 where
-  pub said : saidOf (r .outcome .answer) ≡ told (outcome s)
-  pub kept : (b : ℕ) → r .outcome .answer ≡ Accepted b → (table : List ℕ) → storedOf (r .bounds) table ≡ stored (outcome s) table
+  pub said : saidOf (r .reply .answer) ≡ told (outcome s)
+  pub kept : (b : ℕ) → r .reply .answer ≡ Accepted b → (table : List ℕ) → storedOf (r .bounds) table ≡ stored (outcome s) table
   pub part : partSaid r ≡ partOf s number
 
 abbrev pub ReadLaw : Type 0
@@ -29,7 +29,7 @@ pub read-law : ReadLaw
 unfolding readOf outcome partOf
 read-law s number = record { said = reports .said; kept = reports .kept; part = reports .part }
   where
-    by-length : (t : Bool) → Reports s number (pick t (record { outcome = refusal (length s) 2 0; bounds = noBounds }) (sheetOf s number)) (pick t (refused 2 0) (judgement (sheetAt s 0)))
+    by-length : (t : Bool) → Reports s number (pick t (reportOf (refusal (length s) 2 0) noBounds) (sheetOf s number)) (pick t (refused 2 0) (judgement (sheetAt s 0)))
     by-length true = refusal-law s number 2 0 noBounds
     by-length false = sheet-law s number
 

@@ -19,11 +19,11 @@ use Rattle.records.specs.declared.Cursor.{Cursor}
 use Rattle.records.specs.Records.{headOf}
 use Rattle.reader.specs.declared.Bounds.{Bounds}
 use Rattle.reader.specs.declared.Progress.{Progress}
-use Rattle.reader.specs.declared.Outcome.{Outcome}
+use Rattle.reader.specs.declared.Reply.{Reply}
 use Rattle.reader.specs.declared.Report.{Report}
 use Rattle.reader.specs.declared.Answer.the-variants.{Accepted}
 use Rattle.reader.specs.Tallies.{Parsed}
-use Rattle.reader.specs.Reader.{onHead, onParsed, noBounds, boundsWith, progressFrom, progressWith, refusal, verdictOf, routinesOf, sheetOf}
+use Rattle.reader.specs.Reader.{onHead, onParsed, noBounds, boundsWith, progressFrom, progressWith, refusal, verdictOf, reportOf, routinesOf, sheetOf}
 use Rattle.reader.specs.Said.{saidOf}
 use Rattle.reader.specs.Reports.{storedOf, partSaid}
 use Rattle.bridge.proofs.Agree.{Over, Agrees, Same, both-refused, read-done}
@@ -35,16 +35,18 @@ use Rattle.bridge.proofs.Held.{knownTo, finds, Holds, holds-none, holds
 
 -- what a report says of a verdict: the answer; on acceptance the bounds; the part of the routine that was asked for
 pub record Reports (s : List ℕ) (number : ℕ) (r : Report) (v : Verdict Sheet) : Type 0 where
-  pub said : saidOf (r .outcome .answer) ≡ told v
-  pub kept : (b : ℕ) → r .outcome .answer ≡ Accepted b → (table : List ℕ) → storedOf (r .bounds) table ≡ stored v table
+  pub said : saidOf (r .reply .answer) ≡ told v
+  pub kept : (b : ℕ) → r .reply .answer ≡ Accepted b → (table : List ℕ) → storedOf (r .bounds) table ≡ stored v table
   pub part : partSaid r ≡ partIn s v number
 
-pub refusal-law : (s : List ℕ) (number k place : ℕ) (b : Bounds) → Reports s number (record { outcome = refusal (length s) k place; bounds = b }) (refused k place)
+pub refusal-law : (s : List ℕ) (number k place : ℕ) (b : Bounds) → Reports s number (reportOf (refusal (length s) k place) b) (refused k place)
 unfolding refusal
 refusal-law s number k place b = record { said = refl; kept = λ _ e _. cc; part = refl }
 
-abbrev acceptance : Progress → Outcome
-acceptance progress = record { answer = Accepted (progress .last); start = progress .start; end = progress .end }
+-- TOO BIG, then acceptance
+abbrev sizedReply : ℕ → Progress → Reply
+sizedReply long progress =
+    pick (eqb (progress .over) 0) (record { answer = Accepted (progress .last); start = progress .start; end = progress .end }) (refusal long 12 (progress .over))
 
 -- the sheet of these routines, unless bytes are left after them
 abbrev whole : List ℕ → ℕ → List Routine → Reader Sheet
@@ -57,12 +59,12 @@ after r g = andThen g (λ later past. found (r ∷ later) past)
 module _ (s : List ℕ) (number edition : ℕ) where
   -- EXTRA, then TOO BIG, then the task's bound
   verdict-law : (rs : List Routine) (b : Bounds) (progress : Progress) → Holds s number edition rs b progress →
-      Reports s number (record { outcome = verdictOf (length s) progress; bounds = b }) (judgement (whole s edition rs (progress .at .at)))
+      Reports s number (reportOf (verdictOf (length s) progress) b) (judgement (whole s edition rs (progress .at .at)))
   unfolding verdictOf refuse
   verdict-law rs b progress d = by-place (ltb (progress .at .at) (length s))
     where
       by-values : (i : Option ℕ) → tooBig (endedOf (sheetWith edition rs)) ≡ i → Over i (progress .over) →
-          Reports s number (record { outcome = pick (eqb (progress .over) 0) (acceptance progress) (refusal (length s) 12 (progress .over)); bounds = b }) (sized (sheetWith edition rs) i)
+          Reports s number (reportOf (sizedReply (length s) progress) b) (sized (sheetWith edition rs) i)
       by-values none p x =
           rw (eq-eqb (progress .over) 0 x) (record {
             said = ap (λ z. accepted z) (d .last p);
@@ -72,8 +74,7 @@ module _ (s : List ℕ) (number edition : ℕ) where
       by-values (some place) p x = rw (ne-eqb (progress .over) 0 (λ e. omega arith), x .0) (refusal-law s number 12 place b)
 
       by-place : (t : Bool) →
-          Reports s number
-          (record { outcome = pick t (refusal (length s) 11 (progress .at .at)) (pick (eqb (progress .over) 0) (acceptance progress) (refusal (length s) 12 (progress .over))); bounds = b })
+          Reports s number (reportOf (pick t (refusal (length s) 11 (progress .at .at)) (sizedReply (length s) progress)) b)
           (judgement (refuse t 11 (progress .at .at) (found (sheetWith edition rs) (progress .at .at))))
       by-place true = refusal-law s number 11 (progress .at .at) b
       by-place false = by-values (tooBig (endedOf (sheetWith edition rs))) refl (d .over)
@@ -113,7 +114,7 @@ module _ (s : List ℕ) (number edition : ℕ) where
 
       by-routine : {q : Parsed} {g : Reading Routine} → Found (Long (progress .at .at)) g →
           Same (knownTo b) 0 (progress .at .at) q (andThen g (λ r. found (asLoop r))) →
-          Reports s number (onParsed q (λ k p. record { outcome = refusal (length s) k p; bounds = b }) (λ v o e m next. onward v o next))
+          Reports s number (onParsed q (λ k p. reportOf (refusal (length s) k p) b) (λ v o e m next. onward v o next))
           (verdictWith rs (andThen g (λ r past. after r (later past))))
       by-routine (not-read {number = k} {place = p} n) both-refused = refusal-law s number k p b
       by-routine (was-read long) (read-done a) = one-more long a
@@ -130,7 +131,7 @@ few-routines edition many range = first-most _ _ many _ (first-most _ _ edition 
 
 module _ (s : List ℕ) (number : ℕ) where
   read-sheet : {j : Reading Record} → Found (Judged s sheet 0) j →
-      Reports s number (onHead (headOf j) (λ k p. record { outcome = refusal (length s) k p; bounds = noBounds }) (λ r. routinesOf (r .second) s number noBounds (progressFrom (length s) (r .next))))
+      Reports s number (onHead (headOf j) (λ k p. reportOf (refusal (length s) k p) noBounds) (λ r. routinesOf (r .second) s number noBounds (progressFrom (length s) (r .next))))
       (judgement (andThen j (λ x next. andThen (routinesAt (field x 1) s 1 next) (λ rs past. whole s (field x 0) rs past))))
   unfolding noBounds progressFrom
   read-sheet (not-read {number = k} {place = p} n) = refusal-law s number k p noBounds

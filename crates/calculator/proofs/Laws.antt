@@ -79,17 +79,17 @@ one-each (accepted t) b bound table e few same =
     )
 
 module _ {s : List ℕ} (table : List ℕ) (room : 64 ≤ length table) {report : Report} (reported : Reported s 0 report) where
-  pub refuses : isAccepted (report .outcome .answer) ≡ false → Fills s table (saidOf (report .outcome .answer)) 0 table
+  pub refuses : isAccepted (report .reply .answer) ≡ false → Fills s table (saidOf (report .reply .answer)) 0 table
   unfolding answer filled tableAfter
   refuses e =
-      let none = refused-by (report .outcome .answer) e s table (reported .said) in
+      let none = refused-by (report .reply .answer) e s table (reported .said) in
       rw (le-ltb (length table) 64 room) (reported .said, (none .0, (none .1, omega arith)))
 
-  pub accepts : {after : List ℕ} → isAccepted (report .outcome .answer) ≡ true → report .bounds .count ≤ 64 →
-      after ≡ storedOf (report .bounds) table → Fills s table (saidOf (report .outcome .answer)) (report .bounds .count) after
+  pub accepts : {after : List ℕ} → isAccepted (report .reply .answer) ≡ true → report .bounds .count ≤ 64 →
+      after ≡ storedOf (report .bounds) table → Fills s table (saidOf (report .reply .answer)) (report .bounds .count) after
   unfolding answer filled tableAfter
   accepts e few f =
-      let is = accepted-with (report .outcome .answer) e in
+      let is = accepted-with (report .reply .answer) e in
       let all = one-each (outcome s) (report .bounds) _ table (sym (ap saidOf is) ∙ reported .said) (omega arith) (reported .kept _ is) in
       rw (le-ltb (length table) 64 room) (reported .said, (all, (f ∙ reported .kept _ is table, few)))
 

@@ -59,8 +59,8 @@ pub fn fill(sheet: &[u8], table: &mut [u64]) -> Filled
         };
     }
     let report = reader::read(sheet, 0);
-    let outcome = report.outcome;
-    let answer = outcome.answer;
+    let reply = report.reply;
+    let answer = reply.answer;
     if is_accepted(answer) {
         let b = report.bounds;
         let routines = b.count;
@@ -90,10 +90,10 @@ pub fn routine_places(sheet: &[u8], number: u64) -> Places
     ensures { λ r. ⌜ partAt r ≡ partOf (now (sheet .entry)) number ⌝ }
 {
     let report = reader::read(sheet, number);
-    let outcome = report.outcome;
+    let reply = report.reply;
     Places {
-        start: outcome.start,
-        end: outcome.end,
+        start: reply.start,
+        end: reply.end,
     }
 }
 

@@ -13,7 +13,7 @@ use Rattle.reader.specs.declared.Bounds.{Bounds}
 use Rattle.reader.specs.declared.Progress.{Progress}
 use Rattle.reader.specs.Tallies.{Aside, Share, Done, Refused, noAside, asideOf, Told, Valued}
 use Rattle.reader.specs.Reader.{recordOf, onParsed, ownerOf, listFrom, constructOf, routineOf}
-use Rattle.reader.specs.Reader.{noBounds, boundsWith, progressFrom, progressWith, refusal, verdictOf, routinesOf, sheetOf}
+use Rattle.reader.specs.Reader.{noBounds, boundsWith, progressFrom, progressWith, refusal, verdictOf, reportOf, routinesOf, sheetOf}
 
 module _ (s bounds : List ℕ) (own : ℕ) (c : Cursor) where
   pub routine-refused : {number place : ℕ} → recordOf s routine c ≡ head.Refused number place → routineOf s bounds own c ≡ Refused number place
@@ -44,12 +44,12 @@ none-small (suc n) (suc i) = none-small n i
 module _ (n : ℕ) (s : List ℕ) (number : ℕ) (b : Bounds) (progress : Progress) where
   routines-step : b .count < n →
       routinesOf (n - b .count) s number b progress
-      ≡ onParsed (routineOf s (b .values) (b .count + 1) (progress .at)) (λ k p. record { outcome = refusal (length s) k p; bounds = b }) (λ value over added mark next.
+      ≡ onParsed (routineOf s (b .values) (b .count + 1) (progress .at)) (λ k p. reportOf (refusal (length s) k p) b) (λ value over added mark next.
       routinesOf (n - (b .count + 1)) s number (boundsWith b value) (progressWith progress (b .count + 1) number value over next))
   unfolding routinesOf
   routines-step h = let e : n - b .count ≡ suc (n - (b .count + 1)) = omega arith in rw e
 
-  pub routines-end : n ≤ b .count → routinesOf (n - b .count) s number b progress ≡ record { outcome = verdictOf (length s) progress; bounds = b }
+  pub routines-end : n ≤ b .count → routinesOf (n - b .count) s number b progress ≡ reportOf (verdictOf (length s) progress) b
   unfolding routinesOf
   routines-end h = let e : n - b .count ≡ 0 = omega arith in rw e
 
@@ -67,7 +67,7 @@ module _ (n : ℕ) (s lent : List ℕ) (number : ℕ) (none : Bounds) (first : P
 
 module _ {n : ℕ} {s lent : List ℕ} {number : ℕ} {none : Bounds} {first : Progress} {marks : List ℕ} {b : Bounds} {progress : Progress}
     (under : Under n s lent number none first marks b progress) (more : b .count < n) where
-  pub turn-refused : {k p : ℕ} → routineOf s (b .values) (b .count + 1) (progress .at) ≡ Refused k p → routinesOf n s number none first ≡ record { outcome = refusal (length s) k p; bounds = b }
+  pub turn-refused : {k p : ℕ} → routineOf s (b .values) (b .count + 1) (progress .at) ≡ Refused k p → routinesOf n s number none first ≡ reportOf (refusal (length s) k p) b
   turn-refused e = rw (← under .same, routines-step n s number b progress more, e)
 
   -- one routine more was read, and told p
@@ -99,7 +99,7 @@ module _ {n : ℕ} {s lent : List ℕ} {number : ℕ} {none : Bounds} {first : P
 
 module _ (s : List ℕ) (number : ℕ) where
   pub sheet-refused : {k p : ℕ} → recordOf s sheet (record { at = 0 }) ≡ head.Refused k p →
-      sheetOf s number ≡ record { outcome = refusal (length s) k p; bounds = noBounds }
+      sheetOf s number ≡ reportOf (refusal (length s) k p) noBounds
   unfolding sheetOf
   sheet-refused e = rw e
 

@@ -16,7 +16,7 @@ use Rattle.records.specs.declared.Found.the-variants as found
 use Rattle.records.specs.Records.{constructAs, headOf, foundOf}
 use Rattle.reader.specs.declared.Bounds.{Bounds}
 use Rattle.reader.specs.declared.Progress.{Progress}
-use Rattle.reader.specs.declared.Outcome.{Outcome}
+use Rattle.reader.specs.declared.Reply.{Reply}
 use Rattle.reader.specs.declared.Report.{Report}
 use Rattle.reader.specs.declared.Answer.the-variants as answer
 use Rattle.reader.specs.Tallies.{valueCap, asideIs, Parsed, Done, Refused, share, Tally, noTally, chargesOf, withOf, keptOf, closeOf}
@@ -120,33 +120,37 @@ progressWith progress own number value over next = record {
 }
 
 -- a refusal tells no part
-unfoldable pub refusal : ℕ → ℕ → ℕ → Outcome
+unfoldable pub refusal : ℕ → ℕ → ℕ → Reply
 refusal long number place = record { answer = answer.Refused number place; start = long; end = long }
 
 -- EXTRA, then TOO BIG, then the bound of the last routine
-unfoldable pub verdictOf : ℕ → Progress → Outcome
+unfoldable pub verdictOf : ℕ → Progress → Reply
 verdictOf long progress =
     pick (ltb (progress .at .at) long) (refusal long 11 (progress .at .at))
     (pick (eqb (progress .over) 0)
     (record { answer = answer.Accepted (progress .last); start = progress .start; end = progress .end })
     (refusal long 12 (progress .over)))
 
+-- the bounds stand beside it
+abbrev pub reportOf : Reply → Bounds → Report
+reportOf reply b = record { reply = reply; bounds = b }
+
 -- n routines more
 unfoldable pub routinesOf : ℕ → List ℕ → ℕ → Bounds → Progress → Report
-routinesOf zero s number b progress = record { outcome = verdictOf (length s) progress; bounds = b }
+routinesOf zero s number b progress = reportOf (verdictOf (length s) progress) b
 routinesOf (suc n) s number b progress =
-    onParsed (routineOf s (b .values) (b .count + 1) (progress .at)) (λ k p. record { outcome = refusal (length s) k p; bounds = b }) (λ value over added mark next.
+    onParsed (routineOf s (b .values) (b .count + 1) (progress .at)) (λ k p. reportOf (refusal (length s) k p) b) (λ value over added mark next.
     routinesOf n s number (boundsWith b value) (progressWith progress (b .count + 1) number value over next))
 
 -- the sheet record, then its routines
 unfoldable pub sheetOf : List ℕ → ℕ → Report
 sheetOf s number =
-    onHead (recordOf s sheet (record { at = 0 })) (λ k p. record { outcome = refusal (length s) k p; bounds = noBounds }) (λ r.
+    onHead (recordOf s sheet (record { at = 0 })) (λ k p. reportOf (refusal (length s) k p) noBounds) (λ r.
     routinesOf (r .second) s number noBounds (progressFrom (length s) (r .next)))
 
 -- TOO LONG comes first
 unfoldable pub readOf : List ℕ → ℕ → Report
-readOf s number = pick (ltb 60000 (length s)) (record { outcome = refusal (length s) 2 0; bounds = noBounds }) (sheetOf s number)
+readOf s number = pick (ltb 60000 (length s)) (reportOf (refusal (length s) 2 0) noBounds) (sheetOf s number)
 
 -- What the readers are lent: the bounds of earlier routines, room for the marked branches, at least 8 bytes for each that is held, and
 -- what is told aside so far.

@@ -11,4 +11,4 @@ abbrev pub storedOf : Bounds → List ℕ → List ℕ
 storedOf b table = take (b .count) (b .values) ++ drop (b .count) table
 
 abbrev pub partSaid : Report → Part
-partSaid r = record { start = r .outcome .start; stop = r .outcome .end }
+partSaid r = record { start = r .reply .start; stop = r .reply .end }

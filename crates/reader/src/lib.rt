@@ -44,7 +44,7 @@ pub struct Bounds {
 }
 
 // The answer, and where the records of the routine that was asked for start and end, or the sheet's end for both.
-pub struct Outcome {
+pub struct Reply {
     pub answer: Answer,
     pub start: usize,
     pub end: usize,
@@ -52,7 +52,7 @@ pub struct Outcome {
 
 // What reading a sheet comes to. An enum holds no array, so the bounds stand beside the answer.
 pub struct Report {
-    pub outcome: Outcome,
+    pub reply: Reply,
     pub bounds: Bounds,
 }
 
@@ -735,10 +735,10 @@ impl Progress {
 }
 
 // A refusal, with no part.
-fn refused(long: usize, number: u64, place: usize) -> Outcome
+fn refused(long: usize, number: u64, place: usize) -> Reply
     ensures { λ r. ⌜ r ≡ refusal long number place ⌝ }
 {
-    Outcome {
+    Reply {
         answer: Answer::Refused(number, place),
         start: long,
         end: long,
@@ -746,7 +746,7 @@ fn refused(long: usize, number: u64, place: usize) -> Outcome
 }
 
 // EXTRA, then TOO BIG, then the last routine's bound.
-fn verdict(long: usize, progress: Progress) -> Outcome
+fn verdict(long: usize, progress: Progress) -> Reply
     ensures { λ r. ⌜ r ≡ verdictOf long progress ⌝ }
 {
     let past = progress.at.at;
@@ -756,7 +756,7 @@ fn verdict(long: usize, progress: Progress) -> Outcome
     if progress.over != 0 {
         return refused(long, 12, progress.over);
     }
-    Outcome {
+    Reply {
         answer: Answer::Accepted(progress.last),
         start: progress.start,
         end: progress.end,
@@ -777,7 +777,7 @@ fn routines(s: &[u8], c: Cursor, n: u64, number: u64, marks: &mut [u64]) -> Repo
         match routine(s, at, &b.values, own, marks, &mut aside) {
             Parsed::Refused(k, p) => {
                 return Report {
-                    outcome: refused(s.len(), k, p),
+                    reply: refused(s.len(), k, p),
                     bounds: b,
                 };
             }
@@ -791,7 +791,7 @@ fn routines(s: &[u8], c: Cursor, n: u64, number: u64, marks: &mut [u64]) -> Repo
         }
     }
     Report {
-        outcome: verdict(s.len(), progress),
+        reply: verdict(s.len(), progress),
         bounds: b,
     }
 }
@@ -804,7 +804,7 @@ fn sheet(s: &[u8], number: u64, marks: &mut [u64]) -> Report
     let c = Cursor { at: 0 };
     match c.sheet(s) {
         Head::Refused(k, p) => Report {
-            outcome: refused(s.len(), k, p),
+            reply: refused(s.len(), k, p),
             bounds: Bounds::none(),
         },
         Head::Good(r) => {
@@ -838,7 +838,7 @@ pub fn read(s: &[u8], number: u64) -> Report
     let long = s.len();
     if 60000 < long {
         return Report {
-            outcome: refused(long, 2, 0),
+            reply: refused(long, 2, 0),
             bounds: Bounds::none(),
         };
     }
