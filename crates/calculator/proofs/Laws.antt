@@ -25,11 +25,12 @@ use Rattle.calculator.specs.declared.Places.{Places}
 use Rattle.calculator.specs.Promises.{filledBy, filled, partAt}
 use Rattle.calculator.specs.Steps.{isAccepted}
 
--- one place more of the table
-pub stored-more : (v t : List ℕ) (i : ℕ) → i < length v → i < length t → set (take i v ++ drop i t) i (getD v i 0) ≡ take (i + 1) v ++ drop (i + 1) t
-stored-more v t i h k =
+-- one place more of a table, or of another list
+pub stored-more : {A : Type 0} (none : A) (v t : List A) (i : ℕ) → i < length v → i < length t →
+    set (take i v ++ drop i t) i (getD v i none) ≡ take (i + 1) v ++ drop (i + 1) t
+stored-more none v t i h k =
     let l : length (take i v) ≡ i = simp length-take (omega arith) in
-    rw (drop-cons t i 0, set-at (take i v) (getD t i 0) (drop (suc i) t) (getD v i 0) i l, add-one i, take-suc v i 0, append-assoc)
+    rw (drop-cons t i none, set-at (take i v) (getD t i none) (drop (suc i) t) (getD v i none) i l, add-one i, take-suc v i none, append-assoc)
 
 -- what `fill` promises: what is said, of how many routines, and the table after
 abbrev Fills : List ℕ → List ℕ → Verdict ℕ → ℕ → List ℕ → Type 0

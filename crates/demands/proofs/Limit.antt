@@ -1,17 +1,18 @@
 -- Which values TOO BIG looks at: those of every construct, at any depth, and of every routine, and no other.
-use Prim.Native.Nat.{ℕ, _≤_, _<_}
+use Prim.Native.Nat.{ℕ, zero, suc, _≤_, _<_, zero-le}
 use mathlib.Core.Path.{_≡_, refl, ap}
 use mathlib.Core.Logic.{_↔_}
 use mathlib.Core.Bool.{Bool, true, false}
 use mathlib.Core.List.{List, [], _∷_, _++_}
 use mathlib.Core.Option.{Option, some, none}
+use lib.ListN.{getD}
 use lib.Dec.{ltb}
 use borrow.Author.Tests.{ltb-true, ltb-false, lt-ltb, le-ltb}
 use native.Mathlib.Omega.{arith}
 use Rattle.meaning.specs.Tree.{Construct, Constructs, Routine, Sheet}
 use Rattle.meaning.specs.Tree.{primitive, sequence, alternative, headLoop, tailLoop, timedLoop, call, marker, end, _then_}
 use Rattle.meaning.specs.Format.{pick}
-use Rattle.meaning.specs.Value.{Known, value, bound, knowing, nothing}
+use Rattle.meaning.specs.Value.{Known, value, bound, knowing, nothing, bounds, boundsOf}
 use Rattle.meaning.specs.Answer.{valueLimit, Ended, ended, endedIn, endedRoutines, endedOf, tooBig}
 
 -- a construct's own value is at most the limit, and so are those of all that it owns
@@ -161,3 +162,21 @@ sheet-listed s = (routines-listed (s .routines) nothing _, routines-only (s .rou
 -- where some record is over the limit, some construct's or routine's own value is
 pub not-small : {place : ℕ} (s : Sheet) → FirstOver place (endedOf s) → SmallSheet s → ⊥
 not-small s f h = not-both f (sheet-listed s .1 h)
+
+-- no bound of a small sheet is over the limit
+abbrev NoBoundOver : List ℕ → Type 0
+NoBoundOver bs = (i : ℕ) → getD bs i 0 ≤ valueLimit
+
+one-bound-more : (bs : List ℕ) {b : ℕ} → NoBoundOver bs → b ≤ valueLimit → NoBoundOver (bs ++ (b ∷ []))
+one-bound-more [] h k zero = k
+one-bound-more [] h k (suc i) = zero-le
+one-bound-more (c ∷ bs) h k zero = h zero
+one-bound-more (c ∷ bs) h k (suc i) = one-bound-more bs (λ j. h (suc j)) k i
+
+small-after : (known : Known) (rs : List Routine) → SmallRoutines known rs → NoBoundOver (known .bounds) → NoBoundOver ((bounds known rs) .bounds)
+unfolding bounds
+small-after known [] h k = k
+small-after known (r ∷ rs) (body, own, rest) k = small-after (knowing known (bound known r)) rs rest (one-bound-more (known .bounds) k own)
+
+pub small-bounds : (s : Sheet) → SmallSheet s → (i : ℕ) → getD (boundsOf s) i 0 ≤ valueLimit
+small-bounds s h = small-after nothing (s .routines) h (λ i. zero-le)

@@ -41,7 +41,7 @@ loop-again c =
     let loop = c .before .before .loop in
     let bounds = c .before .before .before .args .t1 .values in
     let long : length bounds ≡ 64 = search needs in
-    (rw (loop .inv .0) (stored-more bounds _ (loop .i) (omega arith) (omega arith)), omega arith, simp length-set (loop .inv .2))
+    (rw (loop .inv .0) (stored-more 0 bounds _ (loop .i) (omega arith) (omega arith)), omega arith, simp length-set (loop .inv .2))
 
 same-length : tie.Need-same-length Inv-loop μ-loop
 same-length c = c .before .loop .inv .2
