@@ -7,6 +7,9 @@ use denote.Triple.Clauses.{AtExit}
 use Rattle.boundary.proofs.maxt_answer as answer
 use Rattle.boundary.proofs.maxt_answer.Kinds as answer-kinds
 use Rattle.boundary.proofs.maxt_answer.Reads as answer-reads
+use Rattle.boundary.proofs.maxt_margins as margins
+use Rattle.boundary.proofs.maxt_margins.Kinds as margins-kinds
+use Rattle.boundary.proofs.maxt_margins.Reads as margins-reads
 use Rattle.boundary.proofs.maxt_routine as routine
 use Rattle.boundary.proofs.maxt_routine.Kinds as routine-kinds
 use Rattle.boundary.proofs.maxt_routine.Reads as routine-reads
@@ -22,3 +25,12 @@ module _ (κs : Lfts 2) (a : ArgsD routine.signature κs) where
   pub routine-determined : (r q : ResD routine.signature κs) (s u : AtExit (endedOf 2 routine-kinds.ps routine-kinds.r) κs) →
       routine-reads.Post κs a r s → routine-reads.Post κs a q u → s .1 .1 .0 .now ≡ u .1 .1 .0 .now
   routine-determined r q s u m n = m ∙ sym n
+
+-- `maxt_margins`: the table after, the margins after and the three numbers after
+module _ (κs : Lfts 5) (a : ArgsD margins.signature κs) where
+  abbrev Left : Type 0
+  Left = AtExit (endedOf 5 margins-kinds.ps margins-kinds.r) κs
+
+  pub margins-determined : (r q : ResD margins.signature κs) (s u : Left) → margins-reads.Post κs a r s → margins-reads.Post κs a q u →
+      (s .1 .0 .now ≡ u .1 .0 .now) × (s .1 .1 .1 .0 .now ≡ u .1 .1 .1 .0 .now) × (s .1 .1 .1 .1 .0 .now ≡ u .1 .1 .1 .1 .0 .now)
+  margins-determined r q s u m n = (m .1 .0 ∙ sym (n .1 .0), m .1 .1 ∙ sym (n .1 .1), m .0 ∙ sym (n .0))
