@@ -16,7 +16,8 @@
 extern "C" {
 #endif
 
-/* The first number of an answer: accepted, or why the sheet is refused (document 01; docs/REFUSALS.md says when each is given). */
+/* The first number of an answer: accepted, or why the sheet is refused (documents 01 and 02; docs/REFUSALS.md says when each is given).
+ * The last two are of maxt_margins alone. */
 enum {
     MAXT_ACCEPTED = 0,
     MAXT_NO_ROOM = 1,
@@ -30,11 +31,16 @@ enum {
     MAXT_STRAY_MARKER = 9,
     MAXT_NO_PLAIN_BRANCH = 10,
     MAXT_EXTRA = 11,
-    MAXT_TOO_BIG = 12
+    MAXT_TOO_BIG = 12,
+    MAXT_SHORT_LIST = 13,
+    MAXT_BAD_DEADLINE = 14
 };
 
-/* A table with fewer places is refused with MAXT_NO_ROOM; no sheet has more routines. */
+/* A table with fewer places is refused with MAXT_NO_ROOM, a list of deadlines or of margins with MAXT_SHORT_LIST; no sheet has more routines. */
 #define MAXT_ROUTINES 64
+
+/* A deadline over this is refused with MAXT_BAD_DEADLINE. */
+#define MAXT_LAST_DEADLINE UINT64_C(1099511627775)
 
 /* Answers a sheet.
  *
@@ -55,6 +61,20 @@ void maxt_answer(const uint8_t *sheet, size_t sheet_length, uint64_t *table, siz
  * The sheet is unchanged.
  */
 void maxt_routine(const uint8_t *sheet, size_t sheet_length, uint64_t number, uint64_t part[2]);
+
+/* Answers a sheet as maxt_answer does, and says by how many cycles each routine keeps its deadline.
+ *
+ * deadlines: in cycles, one per routine in order; later places are not judged. They are unchanged.
+ * margins: on acceptance the first places, one per routine in order, hold deadline minus bound: negative when the routine is late, 0 when it
+ *          just fits; every later place is unchanged. A refusal leaves the whole list unchanged.
+ * answer, table: as maxt_answer has them, but for two refusals more, which leave the table unchanged too:
+ *   MAXT_SHORT_LIST, place 0: deadlines or margins have fewer than MAXT_ROUTINES places. It comes after MAXT_NO_ROOM, before all others.
+ *   MAXT_BAD_DEADLINE: a routine's deadline is over MAXT_LAST_DEADLINE. It comes after all others; answer[1] is the number of the first such
+ *                      routine, from 1, and no offset.
+ * The sheet is unchanged.
+ */
+void maxt_margins(const uint8_t *sheet, size_t sheet_length, uint64_t *table, size_t table_length, const uint64_t *deadlines,
+                  size_t deadlines_length, int64_t *margins, size_t margins_length, uint64_t answer[3]);
 
 #ifdef __cplusplus
 }
