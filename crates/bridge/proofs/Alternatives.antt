@@ -20,8 +20,9 @@ use Rattle.records.specs.declared.Cursor.{Cursor}
 use Rattle.reader.specs.Tallies.{Parsed, Tally, valueCap, chargesOf, counted, noTally, withOf, keptOf, closeOf}
 use Rattle.reader.specs.Ways.{waysOf}
 use Rattle.reader.specs.Reader.{ChildReader, Owner, ownerOf, listOf}
+use Rattle.reader.proofs.Laws.{pick-same}
 use Rattle.bridge.proofs.Agree.{standingOf, occurs, Agrees, Same}
-use Rattle.bridge.proofs.Standings.{same-both, way-condition, way-branch, alternative-inner}
+use Rattle.bridge.proofs.Standings.{way-condition, way-branch, alternative-inner}
 use Rattle.bridge.proofs.Ends.{big-end, ended-law}
 use Rattle.bridge.proofs.Charges.{total-append, unreached, Branch, Each, keptMark, keptIn, charges-law}
 use Rattle.bridge.proofs.Children.{Adds, no-more, one-more, none-first, adds-over, adds-added, kept-law, branch-mark, branches-same, branches-top, branches-kept}
@@ -90,7 +91,7 @@ module _ (known : Known) (s : List ℕ) (before own : ℕ) (number : own ≡ bef
 
     none-kept : keptOf 4 0 v m [] ≡ []
     unfolding keptOf
-    none-kept = same-both (eqb m 0) []
+    none-kept = pick-same (eqb m 0) []
 
     closed : (bs : Constructs) (past : ℕ) (t : Tally) (marks : List ℕ) (next : Cursor) → Adds known 4 n product 1 d first (keptOf 4 0 v m []) bs past t marks →
         Each Branch bs → next .at ≡ past → Same known product start (closing t marks next) (found (alternative c bs) past)

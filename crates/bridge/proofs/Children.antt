@@ -17,7 +17,7 @@ use Rattle.demands.proofs.Good.{Unmarked}
 use Rattle.records.specs.declared.Cursor.{Cursor}
 use Rattle.reader.specs.Tallies.{Tally, valueCap, counted, isBranch, withOf, keptOf}
 use Rattle.bridge.proofs.Agree.{Over, markNumber, either, Agrees}
-use Rattle.bridge.proofs.Standings.{same-both}
+use Rattle.reader.proofs.Laws.{pick-same}
 use Rattle.bridge.proofs.Ends.{also, big-append, also-none, also-assoc, also-right, over-also}
 use Rattle.bridge.proofs.Charges.{total-append, Branch, Each, keptMark, keptIn}
 
@@ -77,7 +77,7 @@ module _ {known : Known} {kind count inner : ℕ} where
     adds-same no-more = (refl, refl)
     adds-same {i = i} {marks = marks} (one-more {m = m} g q rest) =
         let (x, y) = adds-same rest in
-        (x ∙ rw (plain i), y ∙ rw (plain i) (same-both (eqb m 0) marks))
+        (x ∙ rw (plain i), y ∙ rw (plain i) (pick-same (eqb m 0) marks))
 
     pub adds-mark : {i at past : ℕ} {t t' : Tally} {marks marks' : List ℕ} {cs : Constructs} → Adds known kind count inner i at t marks cs past t' marks' →
         Each Unmarked cs → t' .mark ≡ t .mark
@@ -114,7 +114,7 @@ module _ {known : Known} {count inner : ℕ} where
   branches-same no-more h = (refl, refl)
   branches-same {i = i} {t = t} (one-more {m = m} g q rest) h =
       let (x, y) = branches-same rest (omega arith) in
-      (x ∙ rw (ne-eqb i 0 (λ e. omega arith)), y ∙ rw (ne-eqb i 0 (λ e. omega arith)) (same-both (eqb m 0) (t .mark)))
+      (x ∙ rw (ne-eqb i 0 (λ e. omega arith)), y ∙ rw (ne-eqb i 0 (λ e. omega arith)) (pick-same (eqb m 0) (t .mark)))
 
   pub branches-top : {i at past : ℕ} {t t' : Tally} {marks marks' : List ℕ} {bs : Constructs} → Adds known 4 count inner i at t marks bs past t' marks' →
       1 ≤ i → Each Branch bs → tooBig (endedIn known at bs) ≡ none → t' .top ≡ max (t .top) (largest known bs)

@@ -12,14 +12,11 @@ use Rattle.meaning.specs.Legal.{Reach, mayMark, nowhere, firstChild, laterChild
 use Rattle.meaning.specs.Judgement.{Reading, construct, refuse, stray, noPlain, judged}
 use Rattle.records.specs.Records.{reachOf, lastOf, constructAs}
 use Rattle.reader.specs.Ways.{leadOf, bodyOf, innerOf, ways, waysOf, wayOf}
+use Rattle.reader.proofs.Laws.{pick-same}
 use Rattle.bridge.proofs.Agree.{standingOf, occurs}
 
 abbrev reach : Bool → Bool → Bool → Bool → Reach
 reach scope alternative branch lead = record { scope = scope; alternative = alternative; branch = branch; lead = lead }
-
-pub same-both : {A : Type 0} (t : Bool) (a : A) → pick t a a ≡ a
-same-both true a = refl
-same-both false a = refl
 
 -- what holds of the seven standings, 0 to 6, holds of every reach that occurs
 by-standing : (P : Reach → Bool → Type 0) → ((a b l last : Bool) → P (reach false a b l) last) →
@@ -68,7 +65,7 @@ body-law second r h last = go (eqb second 1)
     go : (scope : Bool) → pick scope 1 (pick (eqb (standingOf r last) 1) 1 0) ≡ standingOf (asBody scope r) false
     go true = refl
     go false =
-        by-standing (λ r last. pick (eqb (standingOf r last) 1) 1 0 ≡ standingOf (asBody false r) false) (λ a _ _ _. rw (same-both a false)) (λ _. refl) (λ _. refl)
+        by-standing (λ r last. pick (eqb (standingOf r last) 1) 1 0 ≡ standingOf (asBody false r) false) (λ a _ _ _. rw (pick-same a false)) (λ _. refl) (λ _. refl)
         refl refl refl refl r h last
 
 -- where no branch is the last with all others marked
@@ -85,7 +82,7 @@ pub way-later : (n second held i marked : ℕ) (r : Reach) → occurs r ≡ true
     wayOf (waysOf 3 n second (standingOf r last) held) i marked ≡ standingOf (laterChild r) false
 unfolding waysOf
 way-later n second held i marked r h last k =
-    way-fixed _ _ _ held i marked ∙ rw (ne-eqb i 0 (λ e. omega arith)) (same-both (eqb i 2) _ ∙ others-law r h last)
+    way-fixed _ _ _ held i marked ∙ rw (ne-eqb i 0 (λ e. omega arith)) (pick-same (eqb i 2) _ ∙ others-law r h last)
 
 -- an alternative: its condition, its branches, and the passes of all
 pub way-condition : (n second held standing marked : ℕ) → wayOf (waysOf 4 n second standing held) 0 marked ≡ standingOf nowhere false
@@ -107,10 +104,10 @@ way-branch n second held i marked r h last k =
     z = ne-eqb i 0 (λ e. omega arith)
 
     none : wayOf (ways 0 0 0 0 held) i marked ≡ 0
-    none = way-fixed 0 0 0 held i marked ∙ rw z (same-both (eqb i 2) 0)
+    none = way-fixed 0 0 0 held i marked ∙ rw z (pick-same (eqb i 2) 0)
 
     one : wayOf (ways 0 3 3 n held) i marked ≡ pick (eqb (marked + 1) n) 4 3
-    one = rw (z, same-both {A = ℕ} (eqb i 2) 3)
+    one = rw (z, pick-same {A = ℕ} (eqb i 2) 3)
 
 pub alternative-inner : (n second held standing : ℕ) → waysOf 4 n second standing held .inner ≡ held
 unfolding waysOf

@@ -22,7 +22,7 @@ use Rattle.calculator.proofs.routine_records.Reads as records-reads
 use Rattle.calculator.proofs.Demands.{Meets}
 
 -- what is said names one answer
-one-answer : (a b : Answer) → saidOf a ≡ saidOf b → a ≡ b
+pub one-answer : (a b : Answer) → saidOf a ≡ saidOf b → a ≡ b
 one-answer (Accepted x) (Accepted y) e = cc
 one-answer (Accepted x) (Refused n p) e = cc
 one-answer (Refused n p) (Accepted y) e = cc

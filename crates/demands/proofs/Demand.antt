@@ -37,14 +37,17 @@ table-holds t table (suc i) h =
     let n = length-bounds nothing (t .routines) in
     List·getD-append (boundsOf t) (drop (length (t .routines)) table) 0 i (omega arith)
 
--- a legal sheet has a routine
-some-routine : (t : Sheet) → LegalSheet t → 1 ≤ length (t .routines)
+-- a legal sheet has a routine, and at most 64
+routine-count : (t : Sheet) → LegalSheet t → (1 ≤ length (t .routines)) × (length (t .routines) ≤ 64)
 unfolding rangesOf inRanges
-some-routine t h =
+routine-count t h =
     let n = length (t .routines) in
     let (edition, rest) = pick-true (within (1 to 1) (t .edition)) _ (h .0) in
     let (many, done) = pick-true (within (1 to 64) n) _ rest in
-    within-is (1 to 64) n many .0
+    within-is (1 to 64) n many
+
+pub few-routines : (s : List ℕ) (t : Sheet) → outcome s ≡ accepted t → length (t .routines) ≤ 64
+few-routines s t e = routine-count t (accepted-good s t e .legal) .1
 
 demand-of : (s table : List ℕ) (t : Sheet) → outcome s ≡ accepted t → Demand s (taskBound t) (stored (accepted t) table)
 demand-of s table t e =
@@ -54,7 +57,7 @@ demand-of s table t e =
       read = e;
       most = λ n r. sheet-sound t (length (t .routines)) n r;
       most-of = λ number n low high r. subst (λ z. n ≤ z) (sym (table-holds t table number high)) (sheet-sound t number n r);
-      reached = λ one. sheet-reached t legal one (length (t .routines)) (some-routine t legal) (omega arith);
+      reached = λ one. sheet-reached t legal one (length (t .routines)) (routine-count t legal .0) (omega arith);
       reached-of = λ one number low high. subst (RoutineTakes t number) (sym (table-holds t table number high)) (sheet-reached t legal one number low high);
     }
 

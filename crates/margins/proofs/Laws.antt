@@ -5,7 +5,8 @@ use mathlib.Core.Bool.{Bool, true, false}
 use mathlib.Core.List.{List, [], _∷_, _++_}
 use mathlib.Core.Option.{Option, some, none}
 use lib.ListN.{length, getD, set, take, drop}
-use lib.IntN.{ℤ, pos, negsuc}
+use lib.Seq.{length-take-le}
+use lib.IntN.{ℤ, pos, negsuc, natAbs, pos-ne-negsuc}
 use lib.Dec.{ltb}
 use lib.Signed.{mag}
 use mir.Syntax.{w64}
@@ -15,10 +16,11 @@ use borrow.Author.Tests.{ltb-true, ltb-false, lt-ltb, le-ltb}
 use native.Mathlib.Omega.{arith}
 use native.Mathlib.Nat.{le-of-suc-le-suc, not-suc-le-zero}
 use Rattle.meaning.specs.Format.{pick}
-use Rattle.meaning.specs.Answer.{valueLimit}
+use Rattle.meaning.specs.Tree.{Sheet}
+use Rattle.meaning.specs.Answer.{Verdict, accepted, refused, valueLimit}
 use Rattle.calculator.proofs.Laws.{stored-more}
-use Rattle.margins.specs.Margins.{lastDeadline, firstOut, marginOf, marginsOf}
-use Rattle.margins.specs.Steps.{inRange, allOrNone, AtMost}
+use Rattle.margins.specs.Margins.{lastDeadline, deadlinesOf, firstOut, heldTo, marginOf, marginsOf}
+use Rattle.margins.specs.Steps.{inRange, AtMost}
 
 -- a routine that is early or just fits has the cycles that are left, one that is late those that are missing
 pub in-time : (deadline bound : ℕ) → bound ≤ deadline → marginOf deadline bound ≡ pos (deadline - bound)
@@ -28,6 +30,27 @@ in-time deadline (suc b) h = rw (le-ltb deadline (suc b) h)
 pub late : (deadline bound : ℕ) → deadline < bound → marginOf deadline bound ≡ negsuc (bound - suc deadline)
 late deadline zero h = absurd (not-suc-le-zero h)
 late deadline (suc b) h = rw (lt-ltb deadline (suc b) h)
+
+-- a margin and the bound make the deadline up: what is left to it, what is missing to it
+pub left-is : (deadline bound left : ℕ) → marginOf deadline bound ≡ pos left → bound + left ≡ deadline
+left-is deadline bound left e = go (ltb deadline bound) refl
+  where
+    go : (t : Bool) → ltb deadline bound ≡ t → bound + left ≡ deadline
+    go true q = absurd (pos-ne-negsuc left _ (sym e ∙ late deadline bound (ltb-true deadline bound q)))
+    go false q =
+        let h = ltb-false deadline bound q in
+        let same : deadline - bound ≡ left = ap natAbs (sym (in-time deadline bound h) ∙ e) in
+        omega arith
+
+pub missing-is : (deadline bound missing : ℕ) → marginOf deadline bound ≡ negsuc missing → deadline + suc missing ≡ bound
+missing-is deadline bound missing e = go (ltb deadline bound) refl
+  where
+    go : (t : Bool) → ltb deadline bound ≡ t → deadline + suc missing ≡ bound
+    go true q =
+        let h = ltb-true deadline bound q in
+        let same : suc (bound - suc deadline) ≡ suc missing = ap natAbs (sym (late deadline bound h) ∙ e) in
+        omega arith
+    go false q = absurd (pos-ne-negsuc _ missing (sym (in-time deadline bound (ltb-false deadline bound q)) ∙ e))
 
 -- no margin is too large for a signed number of 64 bits
 pub margin-fits : (deadline bound : ℕ) → deadline ≤ lastDeadline → bound ≤ valueLimit → SFits w64 (marginOf deadline bound)
@@ -52,6 +75,18 @@ those-in-range (suc n) (d ∷ ds) i h = go (ltb lastDeadline d) refl (those-in-r
     go true e rest i h = absurd (not-suc-le-zero h)
     go false e rest zero h = ltb-false lastDeadline d e
     go false e rest (suc i) h = rest i (le-of-suc-le-suc h)
+
+-- and the next of the n is not
+pub next-out : (n : ℕ) (deadlines : List ℕ) → n ≤ length deadlines → inRange (take n deadlines) < n → lastDeadline < getD deadlines (inRange (take n deadlines)) 0
+unfolding inRange
+next-out zero deadlines k h = absurd (not-suc-le-zero h)
+next-out (suc n) [] k h = absurd (not-suc-le-zero k)
+next-out (suc n) (d ∷ ds) k h = go (ltb lastDeadline d) refl (next-out n ds (le-of-suc-le-suc k)) h
+  where
+    go : (t : Bool) → ltb lastDeadline d ≡ t → (inRange (take n ds) < n → lastDeadline < getD ds (inRange (take n ds)) 0) →
+        pick t 0 (suc (inRange (take n ds))) < suc n → lastDeadline < getD (d ∷ ds) (pick t 0 (suc (inRange (take n ds)))) 0
+    go true e rest h = ltb-true lastDeadline d e
+    go false e rest h = rest (le-of-suc-le-suc h)
 
 -- one more number is at most this
 pub at-most-more : (most n : ℕ) (xs : List ℕ) → AtMost most n xs → getD xs n 0 ≤ most → AtMost most (n + 1) xs
@@ -104,7 +139,7 @@ margins-first [] (b ∷ bs) others h = absurd (not-suc-le-zero h)
 margins-first (d ∷ ds) (b ∷ bs) others h = ap (λ r. marginOf d b ∷ r) (margins-first ds bs others (le-of-suc-le-suc h))
 
 -- the first deadline out of range, and that there is none
-pub first-out : (number : ℕ) (deadlines : List ℕ) → inRange deadlines < length deadlines → firstOut number deadlines ≡ some (number + inRange deadlines)
+first-out : (number : ℕ) (deadlines : List ℕ) → inRange deadlines < length deadlines → firstOut number deadlines ≡ some (number + inRange deadlines)
 unfolding inRange firstOut
 first-out number [] h = absurd (not-suc-le-zero h)
 first-out number (d ∷ ds) h = go (ltb lastDeadline d) (first-out (suc number) ds) h
@@ -114,7 +149,7 @@ first-out number (d ∷ ds) h = go (ltb lastDeadline d) (first-out (suc number) 
     go true rest h = ap (λ z. some z) (omega arith)
     go false rest h = rest (omega arith) ∙ ap (λ z. some z) (omega arith)
 
-pub none-out : (number : ℕ) (deadlines : List ℕ) → length deadlines ≤ inRange deadlines → firstOut number deadlines ≡ none
+none-out : (number : ℕ) (deadlines : List ℕ) → length deadlines ≤ inRange deadlines → firstOut number deadlines ≡ none
 unfolding inRange firstOut
 none-out number [] h = refl
 none-out number (d ∷ ds) h = go (ltb lastDeadline d) (none-out (suc number) ds) h
@@ -123,3 +158,15 @@ none-out number (d ∷ ds) h = go (ltb lastDeadline d) (none-out (suc number) ds
         pick t (some number) (firstOut (suc number) ds) ≡ none
     go true rest h = absurd (not-suc-le-zero h)
     go false rest h = rest (omega arith)
+
+-- an accepted sheet with a deadline out of range, and with none
+module _ (t : Sheet) (deadlines : List ℕ) (long : length (t .routines) ≤ length deadlines) where
+  pub some-out : inRange (deadlinesOf t deadlines) < length (t .routines) → heldTo deadlines (accepted t) ≡ refused 14 (inRange (deadlinesOf t deadlines) + 1)
+  some-out h =
+      let these = length-take-le (length (t .routines)) deadlines long in
+      rw (first-out 1 (deadlinesOf t deadlines) (omega arith)) (ap (λ k. refused 14 k) (omega arith))
+
+  pub all-in : length (t .routines) ≤ inRange (deadlinesOf t deadlines) → heldTo deadlines (accepted t) ≡ accepted t
+  all-in h =
+      let these = length-take-le (length (t .routines)) deadlines long in
+      rw (none-out 1 (deadlinesOf t deadlines) (omega arith))

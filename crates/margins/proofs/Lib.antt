@@ -1,2 +1,5 @@
 pub mod Laws
 pub mod Plans
+pub mod Demands
+pub mod Determined
+pub mod Examples

@@ -7,6 +7,8 @@ use lib.ListN.{length, getD, take, drop, length-append, length-take, length-drop
 use lib.Seq.{length-take-le, take-append-seam}
 use lib.IntN.{ℤ}
 use lib.Dec.{ltb}
+use mir.Syntax.{w64}
+use mir.Val.{Fits}
 use borrow.Author.Tests.{ltb-true, ltb-false, lt-ltb, le-ltb}
 use native.Mathlib.Omega.{arith}
 use native.Mathlib.Nat.{not-suc-le-zero}
@@ -19,8 +21,8 @@ use Rattle.demands.proofs.Limit.{small-bounds}
 use Rattle.demands.proofs.Outcome.{accepted-is}
 use Rattle.calculator.specs.Promises.{filledBy, filled}
 use Rattle.margins.specs.Margins.{lastDeadline, held, heldTo, planned, marginsOf, marginsAfter}
-use Rattle.margins.specs.Steps.{inRange, allOrNone, AtMost}
-use Rattle.margins.proofs.Laws.{those-in-range, first-out, none-out, margins-first}
+use Rattle.margins.specs.Steps.{inRange, AtMost}
+use Rattle.margins.proofs.Laws.{those-in-range, some-out, all-in, margins-first}
 
 -- what `fill` leaves in a table of 64 places, of a sheet that this becomes of
 pub record Fills (v : Verdict Sheet) (z : List ℕ) (said : Verdict ℕ) (n : ℕ) (own : List ℕ) : Type 0 where
@@ -49,15 +51,11 @@ module _ (deadlines : List ℕ) {z : List ℕ} {said : Verdict ℕ} {n : ℕ} {o
   held-out : (v : Verdict Sheet) → Fills v z said n own → n ≤ length deadlines → inRange (take n deadlines) < n →
       heldTo deadlines v ≡ refused 14 (inRange (take n deadlines) + 1)
   held-out (refused number place) f long h = absurd (not-suc-le-zero (subst (λ k. inRange (take n deadlines) < k) (f .count) h))
-  held-out (accepted t) f long h =
-      let these = length-take-le n deadlines long in
-      rw (← f .count, first-out 1 (take n deadlines) (omega arith)) (ap (λ k. refused 14 k) (omega arith))
+  held-out (accepted t) f long h = rw (f .count) (some-out t deadlines (rw (f .count) at long) (rw (f .count) at h))
 
   held-by-all : (v : Verdict Sheet) → Fills v z said n own → n ≤ length deadlines → n ≤ inRange (take n deadlines) → heldTo deadlines v ≡ v
   held-by-all (refused number place) f long h = refl
-  held-by-all (accepted t) f long h =
-      let these = length-take-le n deadlines long in
-      rw (← f .count, none-out 1 (take n deadlines) (omega arith))
+  held-by-all (accepted t) f long h = all-in t deadlines (rw (f .count) at long) (rw (f .count) at h)
 
   -- what is written then: the bounds of all routines and their margins
   written-all : (v : Verdict Sheet) → Fills v z said n own → (table : List ℕ) (margins : List ℤ) → n ≤ length deadlines →
@@ -70,7 +68,7 @@ module _ (deadlines : List ℕ) {z : List ℕ} {said : Verdict ℕ} {n : ℕ} {o
       let theirs : take n (marginsOf deadlines (boundsOf t ++ others)) ≡ marginsOf deadlines (boundsOf t) = rw all (margins-first deadlines (boundsOf t) others (omega arith)) in
       rw (f .kept, firsts, theirs, f .count) (refl, refl)
 
-all-or-none-few : (good n : ℕ) → (allOrNone good n ≤ n) × (allOrNone good n ≤ good)
+all-or-none-few : (good n : ℕ) → (pick (ltb good n) 0 n ≤ n) × (pick (ltb good n) 0 n ≤ good)
 all-or-none-few good n = go (ltb good n) refl
   where
     go : (t : Bool) → ltb good n ≡ t → (pick t 0 n ≤ n) × (pick t 0 n ≤ good)
@@ -98,7 +96,7 @@ module _ (s table deadlines : List ℕ) (margins : List ℤ) where
       rw (le-ltb (length table) 64 h, le-ltb (length deadlines) 64 k, lt-ltb (length margins) 64 l) (refl, (refl, refl))
 
   -- with three lists that are long enough it is the sheet and the deadlines that decide
-  by-sheet : 64 ≤ length table → 64 ≤ length deadlines → 64 ≤ length margins → planned s table deadlines margins ≡ heldTo deadlines (outcome s)
+  pub by-sheet : 64 ≤ length table → 64 ≤ length deadlines → 64 ≤ length margins → planned s table deadlines margins ≡ heldTo deadlines (outcome s)
   unfolding planned
   by-sheet h k l = rw (le-ltb (length table) 64 h, le-ltb (length deadlines) 64 k, le-ltb (length margins) 64 l)
 
@@ -112,7 +110,7 @@ pub record Judged (s table deadlines : List ℕ) (margins : List ℤ) (said : Ve
   pub few : n ≤ 64
   pub own-long : length own ≡ 64
   pub the-good : good ≡ inRange (take n deadlines)
-  pub the-count : count ≡ allOrNone good n
+  pub the-count : count ≡ pick (ltb good n) 0 n
 
 -- what `write_out` requires, and what it leaves
 module _ (s table deadlines : List ℕ) (margins : List ℤ) {said : Verdict ℕ} {n : ℕ} {own : List ℕ} {good count : ℕ}
@@ -126,19 +124,23 @@ module _ (s table deadlines : List ℕ) (margins : List ℤ) {said : Verdict ℕ
         ((λ i h. bounds-small s (outcome s) refl (j .fills) i (omega arith)), (λ i h. those-in-range n deadlines i (omega arith))),
       )
 
+  pub number-fits : ltb good n ≡ true → Fits w64 (good + 1)
+  number-fits e = record { fits = omega (arith, ltb-true good n e, j .few) }
+
   module _ {after : List ℕ} {written : List ℤ} (a : after ≡ take count own ++ drop count table)
       (b : written ≡ take count (marginsOf deadlines own) ++ drop count margins) where
     by-lists : planned s table deadlines margins ≡ heldTo deadlines (outcome s)
     by-lists = by-sheet s table deadlines margins (j .room) (j .long) (j .long-too)
 
-    pub out-of-range : good < n → Plans s table deadlines margins (refused 14 (good + 1)) after written
-    out-of-range h =
-        let none : count ≡ 0 = rw (lt-ltb good n h) at (j .the-count) in
-        rw (by-lists, j .the-good, held-out deadlines (outcome s) (j .fills) (omega arith) (rw (j .the-good) at h)) (refl, (rw none at a, rw none at b))
+    pub out-of-range : ltb good n ≡ true → Plans s table deadlines margins (refused 14 (good + 1)) after written
+    out-of-range e =
+        let h : inRange (take n deadlines) < n = rw (j .the-good) at (ltb-true good n e) in
+        let none : count ≡ 0 = rw e at (j .the-count) in
+        rw (by-lists, j .the-good, held-out deadlines (outcome s) (j .fills) (omega arith) h) (refl, (rw none at a, rw none at b))
 
-    pub all-in-range : n ≤ good → Plans s table deadlines margins said after written
-    all-in-range h =
-        let all : count ≡ n = rw (le-ltb good n h) at (j .the-count) in
+    pub all-in-range : ltb good n ≡ false → Plans s table deadlines margins said after written
+    all-in-range e =
+        let h : n ≤ inRange (take n deadlines) = rw (j .the-good) at (ltb-false good n e) in
+        let all : count ≡ n = rw e at (j .the-count) in
         let (bounds-in, margins-in) = written-all deadlines (outcome s) (j .fills) table margins (omega arith) in
-        rw (by-lists, held-by-all deadlines (outcome s) (j .fills) (omega arith) (rw (j .the-good) at h))
-        (j .fills .same, ((rw all at a) ∙ bounds-in, (rw all at b) ∙ margins-in))
+        rw (by-lists, held-by-all deadlines (outcome s) (j .fills) (omega arith) h) (j .fills .same, ((rw all at a) ∙ bounds-in, (rw all at b) ∙ margins-in))

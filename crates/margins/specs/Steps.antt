@@ -11,10 +11,6 @@ unfoldable pub inRange : List ℕ → ℕ
 inRange [] = zero
 inRange (deadline ∷ rest) = pick (ltb lastDeadline deadline) zero (suc (inRange rest))
 
--- of how many routines bounds and margins are written: of all n where so many deadlines are in range, else of none
-abbrev pub allOrNone : ℕ → ℕ → ℕ
-allOrNone good n = pick (ltb good n) 0 n
-
 -- the first n numbers of a list are at most this
 abbrev pub AtMost : ℕ → ℕ → List ℕ → Type 0
 AtMost most n xs = (i : ℕ) → i < n → getD xs i 0 ≤ most

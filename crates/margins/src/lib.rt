@@ -4,10 +4,11 @@ ghost use mathlib.Core.Path.{_≡_};
 ghost use mathlib.Core.List.{_++_};
 ghost use Prim.Native.Nat.{_≤_};
 ghost use lib.ListN.{length, take, drop};
+ghost use Rattle.meaning.specs.Format.{pick};
 ghost use Rattle.meaning.specs.Answer.{valueLimit, told, stored};
 ghost use Rattle.reader.specs.Said.{saidOf};
 ghost use Rattle.margins.specs.Margins.{lastDeadline, planned, marginOf, marginsOf, marginsAfter};
-ghost use Rattle.margins.specs.Steps.{inRange, allOrNone, AtMost};
+ghost use Rattle.margins.specs.Steps.{inRange, AtMost};
 
 const LAST_DEADLINE: u64 = 1099511627775;
 
@@ -34,10 +35,11 @@ fn in_range(deadlines: &[u64], n: usize) -> usize
     i
 }
 
-fn all_or_none(good: usize, n: usize) -> usize
-    ensures { λ r. ⌜ r ≡ allOrNone good n ⌝ }
+// Of how many routines bounds and margins are written.
+fn all_or_none(bad: bool, n: usize) -> usize
+    ensures { λ r. ⌜ r ≡ pick bad 0 n ⌝ }
 {
-    if good < n { 0 } else { n }
+    if bad { 0 } else { n }
 }
 
 // The bounds and the margins of the first n routines into the lent lists.
@@ -77,10 +79,12 @@ pub fn margins(sheet: &[u8], table: &mut [u64], deadlines: &[u64], margins: &mut
     let filled = calculator::fill(sheet, &mut bounds);
     let n = filled.routines as usize;
     let good = in_range(deadlines, n);
-    let written = all_or_none(good, n);
+    let bad = good < n;
+    let written = all_or_none(bad, n);
     write_out(&bounds, deadlines, written, table, margins);
-    if good < n {
-        return Answer::Refused(14, good + 1);
+    if bad {
+        let number = good + 1;
+        return Answer::Refused(14, number);
     }
     filled.answer
 }

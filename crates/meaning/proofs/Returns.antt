@@ -8,20 +8,20 @@ use Rattle.meaning.proofs.Notation.{P, S, C, R}
 use Rattle.meaning.proofs.Rows.{routines, large, answers}
 
 -- a table in which every place differs: n, n - 1 and so on
-abbrev lent : ℕ → List ℕ
+abbrev pub lent : ℕ → List ℕ
 lent zero = []
 lent (suc n) = suc n ∷ lent n
 
--- two routines, from 12 to 28 and from 28 to 52
-abbrev good : List ℕ
+-- two routines, from 12 to 28 and from 28 to 52, with the bounds 4 and 9
+abbrev pub good : List ℕ
 good = routines (R 3 (P 1) ∷ R 5 (S (C 1 ∷ [])) ∷ [])
 
 -- the second calls itself: BAD CALL
-abbrev bad : List ℕ
+abbrev pub bad : List ℕ
 bad = routines (R 3 (P 1) ∷ R 5 (S (C 2 ∷ [])) ∷ [])
 
 -- the second routine is TOO BIG
-abbrev tooBig : List ℕ
+abbrev pub tooBig : List ℕ
 tooBig = routines (R 3 (P 1) ∷ R 0 large ∷ [])
 
 -- A sheet, the lent table, and the table after.

@@ -1,5 +1,5 @@
 -- `margins`: short lists are refused before anything is read; the bounds are filled in, the deadlines judged, and only then is anything written.
-use Rattle.margins.proofs.Plans.{filled-so, no-room, short-deadlines, short-margins, Judged, may-write, out-of-range, all-in-range}
+use Rattle.margins.proofs.Plans.{filled-so, no-room, short-deadlines, short-margins, Judged, may-write, number-fits, out-of-range, all-in-range}
 use Rattle.reader.specs.Said.{saidOf}
 use borrow.Author.Needs.{needs}
 use Rattle.margins.proofs.margins.Statement.{statement}
@@ -54,8 +54,8 @@ judged c =
 write-out-requires : tie.Need-write-out-requires
 write-out-requires c κs = may-write _ _ _ _ (judged (c .before .before .before))
 
-add-t21 : tie.Need-add-t21
-add-t21 c = search needs
+add-number : tie.Need-add-number
+add-number c = number-fits _ _ _ _ (judged (c .before .before .before .before .before .before .before .before)) (c .if4 .taken)
 
 same-length : tie.Need-same-length
 same-length c = search needs
@@ -92,7 +92,7 @@ margins-spec =
     all-or-none-requires
     slice-aggregate-write-out
     write-out-requires
-    add-t21
+    add-number
     same-length
     same-length-2
     returns-4
