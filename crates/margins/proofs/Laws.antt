@@ -6,7 +6,7 @@ use mathlib.Core.List.{List, [], _∷_, _++_}
 use mathlib.Core.Option.{Option, some, none}
 use lib.ListN.{length, getD, set, take, drop}
 use lib.Seq.{length-take-le}
-use lib.IntN.{ℤ, pos, negsuc, natAbs, pos-ne-negsuc}
+use lib.IntN.{ℤ, pos, negsuc, natAbs, pos-ne-negsuc, _-ℤ_}
 use lib.Dec.{ltb}
 use lib.Signed.{mag}
 use mir.Syntax.{w64}
@@ -22,14 +22,14 @@ use Rattle.calculator.proofs.Laws.{stored-more}
 use Rattle.margins.specs.Margins.{lastDeadline, deadlinesOf, firstOut, heldTo, marginOf, marginsOf}
 use Rattle.margins.specs.Steps.{inRange, AtMost}
 
--- a routine that is early or just fits has the cycles that are left, one that is late those that are missing
-pub in-time : (deadline bound : ℕ) → bound ≤ deadline → marginOf deadline bound ≡ pos (deadline - bound)
-in-time deadline zero h = ap pos (omega arith)
-in-time deadline (suc b) h = rw (le-ltb deadline (suc b) h)
-
+-- a routine that is late has the cycles that are missing, below 0; one that is early or just fits those that are left
 pub late : (deadline bound : ℕ) → deadline < bound → marginOf deadline bound ≡ negsuc (bound - suc deadline)
 late deadline zero h = absurd (not-suc-le-zero h)
 late deadline (suc b) h = rw (lt-ltb deadline (suc b) h)
+
+pub in-time : (deadline bound : ℕ) → bound ≤ deadline → marginOf deadline bound ≡ pos (deadline - bound)
+in-time deadline zero h = ap pos (omega arith)
+in-time deadline (suc b) h = rw (le-ltb deadline (suc b) h)
 
 -- a margin and the bound make the deadline up: what is left to it, what is missing to it
 pub left-is : (deadline bound left : ℕ) → marginOf deadline bound ≡ pos left → bound + left ≡ deadline
@@ -53,7 +53,7 @@ missing-is deadline bound missing e = go (ltb deadline bound) refl
     go false q = absurd (pos-ne-negsuc _ missing (sym (in-time deadline bound (ltb-false deadline bound q)) ∙ e))
 
 -- no margin is too large for a signed number of 64 bits
-pub margin-fits : (deadline bound : ℕ) → deadline ≤ lastDeadline → bound ≤ valueLimit → SFits w64 (marginOf deadline bound)
+margin-fits : (deadline bound : ℕ) → deadline ≤ lastDeadline → bound ≤ valueLimit → SFits w64 (marginOf deadline bound)
 margin-fits deadline bound h k = go (ltb deadline bound) refl
   where
     go : (t : Bool) → ltb deadline bound ≡ t → SFits w64 (marginOf deadline bound)
@@ -61,8 +61,19 @@ margin-fits deadline bound h k = go (ltb deadline bound) refl
     go false e = record { sfits = rw (in-time deadline bound (ltb-false deadline bound e)) (omega arith) }
 
 -- a number under the limits is the same read as signed
-pub cast-keeps : (n : ℕ) → n ≤ valueLimit → toZ w64 n ≡ pos n
+cast-keeps : (n : ℕ) → n ≤ valueLimit → toZ w64 n ≡ pos n
 cast-keeps n h = toZ-pos w64 n (omega arith)
+
+-- the difference of what is cast fits, and is the margin once it is read back
+module _ (deadline bound : ℕ) (few : (deadline ≤ lastDeadline) × (bound ≤ valueLimit)) where
+  difference-is : toZ w64 deadline -ℤ toZ w64 bound ≡ marginOf deadline bound
+  difference-is = rw (cast-keeps deadline (few .0), cast-keeps bound (few .1))
+
+  pub difference-fits : SFits w64 (toZ w64 deadline -ℤ toZ w64 bound)
+  difference-fits = rw difference-is (margin-fits deadline bound (few .0) (few .1))
+
+  pub difference-read : toZ w64 (ofZ w64 (toZ w64 deadline -ℤ toZ w64 bound)) ≡ marginOf deadline bound
+  difference-read = toZ-ofZ w64 _ difference-fits ∙ difference-is
 
 -- the deadlines before the first that is out of range are in range
 pub those-in-range : (n : ℕ) (deadlines : List ℕ) → AtMost lastDeadline (inRange (take n deadlines)) deadlines

@@ -54,9 +54,6 @@ judged c =
 write-out-requires : tie.Need-write-out-requires
 write-out-requires c κs = may-write _ _ _ _ (judged (c .before .before .before))
 
-add-number : tie.Need-add-number
-add-number c = number-fits _ _ _ _ (judged (c .before .before .before .before .before .before .before .before)) (c .if4 .taken)
-
 same-length : tie.Need-same-length
 same-length c = search needs
 
@@ -78,6 +75,9 @@ returns-5 : tie.Need-returns-5
 returns-5 c =
     let written = c .before .before .before .before in
     all-in-range _ _ _ _ (judged (written .before .before .before .before)) (written .write-out .ensures .0) (written .write-out .ensures .1) (c .if4 .left)
+
+add-number : tie.Need-add-number
+add-number c = number-fits _ _ _ _ (judged (c .before .before .before .before .before .before .before .before)) (c .if4 .taken)
 
 pub margins-spec : {M : Type 1} → statement M
 margins-spec =
