@@ -1,14 +1,20 @@
-//! The bound of a timing sheet, worked out by the proved archive `libboundary.a`.
+//! The bound of a timing sheet and the margins of its routines, worked out by the proved archive `libboundary.a`.
 //!
-//! Document 01 says what a sheet is, what its bound is and when it is refused. This crate adds no rule of its own:
-//! it hands slices to the archive and gives its answers a type.
+//! Document 01 says what a sheet is, what its bound is and when it is refused; document 02's request L1 says what a
+//! margin is. This crate adds no rule of its own: it hands slices to the archive and gives its answers a type.
 
 use core::ops::Range;
 
 /// Places that a lent table needs at least; with fewer the answer is [`Refusal::NoRoom`].
 pub const TABLE_PLACES: usize = 64;
 
-/// Document 01's refusals, with its numbers.
+/// Places that a lent list of deadlines or margins needs at least; with fewer the answer is [`Refusal::ShortList`].
+pub const LIST_PLACES: usize = 64;
+
+/// The largest deadline; a routine with a larger one is [`Refusal::BadDeadline`].
+pub const LAST_DEADLINE: u64 = (1 << 40) - 1;
+
+/// The refusals of documents 01 and 02, with their numbers. [`margins`] alone gives the last two.
 #[derive(Clone, Copy, Debug, PartialEq, Eq, Hash)]
 #[repr(u8)]
 pub enum Refusal {
@@ -24,11 +30,14 @@ pub enum Refusal {
     NoPlainBranch = 10,
     Extra = 11,
     TooBig = 12,
+    ShortList = 13,
+    /// Its place is no offset: it is the number of the first routine whose deadline is out of range, from 1.
+    BadDeadline = 14,
 }
 
 impl Refusal {
     /// In the order of their numbers.
-    pub const ALL: [Refusal; 12] = [
+    pub const ALL: [Refusal; 14] = [
         Refusal::NoRoom,
         Refusal::TooLong,
         Refusal::Cut,
@@ -41,14 +50,16 @@ impl Refusal {
         Refusal::NoPlainBranch,
         Refusal::Extra,
         Refusal::TooBig,
+        Refusal::ShortList,
+        Refusal::BadDeadline,
     ];
 
-    /// The number that document 01 gives it, 1 to 12.
+    /// The number that the documents give it, 1 to 14.
     pub fn number(self) -> u8 {
         self as u8
     }
 
-    /// The name as document 01 writes it.
+    /// The name as the documents write it.
     pub fn name(self) -> &'static str {
         match self {
             Refusal::NoRoom => "NO ROOM",
@@ -63,6 +74,8 @@ impl Refusal {
             Refusal::NoPlainBranch => "NO PLAIN BRANCH",
             Refusal::Extra => "EXTRA",
             Refusal::TooBig => "TOO BIG",
+            Refusal::ShortList => "SHORT LIST",
+            Refusal::BadDeadline => "BAD DEADLINE",
         }
     }
 
@@ -82,14 +95,28 @@ impl core::fmt::Display for Refusal {
 pub enum Answer {
     /// The bound of the last routine, the task.
     Accepted { bound: u64 },
-    /// The place is an offset in the sheet.
+    /// The place is an offset in the sheet; of [`Refusal::BadDeadline`] it is the number of a routine, from 1.
     Refused { refusal: Refusal, place: usize },
 }
 
+/// The entries as `include/maxt.h` has them. All calls of this crate are safe for one reason: each pointer comes from a
+/// slice with the length that is passed with it, or from an array as long as what the entry stores; all are aligned and
+/// live until the call returns, those that are written through come from mutable borrows, and the archive keeps none.
 mod archive {
     extern "C" {
         pub fn maxt_answer(sheet: *const u8, sheet_length: usize, table: *mut u64, table_length: usize, answer: *mut [u64; 3]);
         pub fn maxt_routine(sheet: *const u8, sheet_length: usize, number: u64, part: *mut [u64; 2]);
+        pub fn maxt_margins(
+            sheet: *const u8,
+            sheet_length: usize,
+            table: *mut u64,
+            table_length: usize,
+            deadlines: *const u64,
+            deadlines_length: usize,
+            margins: *mut i64,
+            margins_length: usize,
+            answer: *mut [u64; 3],
+        );
     }
 }
 
@@ -98,14 +125,14 @@ impl Answer {
     ///
     /// # Panics
     ///
-    /// If document 01 does not have the number; the archive's contract rules that out.
+    /// If the documents do not have the number; the archive's contract rules that out.
     pub fn of_numbers([number, place, bound]: [u64; 3]) -> Answer {
         if number == 0 {
             return Answer::Accepted { bound };
         }
         match Refusal::of_number(number) {
             Some(refusal) => Answer::Refused { refusal, place: offset(place) },
-            None => panic!("the archive answered with number {number}, which is no refusal of document 01"),
+            None => panic!("the archive answered with number {number}, which is no refusal of the documents"),
         }
     }
 }
@@ -121,11 +148,43 @@ pub fn answer(sheet: &[u8], table: &mut [u64]) -> Answer {
 /// [`answer`] as the archive gives it: number (0 is acceptance), place and bound.
 pub fn numbers(sheet: &[u8], table: &mut [u64]) -> [u64; 3] {
     let mut answer = [0; 3];
-    // SAFETY: both pointers come from slices with the lengths that are passed with them, and `answer` from an array of
-    // three; all are aligned and live until the call returns, the two written ones are borrowed mutably, and the archive
-    // keeps none of them.
+    // SAFETY: as `archive` says; the table and the array of three are written.
     unsafe {
         archive::maxt_answer(sheet.as_ptr(), sheet.len(), table.as_mut_ptr(), table.len(), &mut answer);
+    }
+    answer
+}
+
+/// [`answer`], and by how many cycles each routine keeps its deadline.
+///
+/// On acceptance the first places of `margins`, one per routine in order, hold deadline minus bound: negative when the
+/// routine is late, 0 when it just fits; every later place is as it was. A refusal leaves table and margins as they were;
+/// there are two more of them:
+///
+/// - [`Refusal::ShortList`], after [`Refusal::NoRoom`] and before all others: one of the two lists has fewer than
+///   [`LIST_PLACES`] places.
+/// - [`Refusal::BadDeadline`], after all others: a routine's deadline is over [`LAST_DEADLINE`]. Deadlines behind the last
+///   routine's are not judged.
+pub fn margins(sheet: &[u8], table: &mut [u64], deadlines: &[u64], margins: &mut [i64]) -> Answer {
+    Answer::of_numbers(margin_numbers(sheet, table, deadlines, margins))
+}
+
+/// [`margins`] as the archive gives its answer: number (0 is acceptance), place and bound.
+pub fn margin_numbers(sheet: &[u8], table: &mut [u64], deadlines: &[u64], margins: &mut [i64]) -> [u64; 3] {
+    let mut answer = [0; 3];
+    // SAFETY: as `archive` says; the table, the margins and the array of three are written.
+    unsafe {
+        archive::maxt_margins(
+            sheet.as_ptr(),
+            sheet.len(),
+            table.as_mut_ptr(),
+            table.len(),
+            deadlines.as_ptr(),
+            deadlines.len(),
+            margins.as_mut_ptr(),
+            margins.len(),
+            &mut answer,
+        );
     }
     answer
 }
@@ -136,8 +195,7 @@ pub fn numbers(sheet: &[u8], table: &mut [u64]) -> [u64; 3] {
 /// sheet's end.
 pub fn routine(sheet: &[u8], number: u64) -> Range<usize> {
     let mut part = [0u64; 2];
-    // SAFETY: the pointer comes from a slice with the length that is passed with it, `part` from an array of two; both
-    // are aligned and live until the call returns, `part` is borrowed mutably, and the archive keeps none of them.
+    // SAFETY: as `archive` says; the array of two is written.
     unsafe {
         archive::maxt_routine(sheet.as_ptr(), sheet.len(), number, &mut part);
     }

@@ -1,24 +1,9 @@
-//! The two entries on sheets whose figures document 01 prints.
+//! Answers and routine parts of sheets whose figures document 01 prints.
 
+mod common;
+
+use common::{camera, refused, CASE_B, GARBAGE};
 use maxt::{answer, routine, routine_records, Answer, Refusal, TABLE_PLACES};
-
-const GARBAGE: u64 = 0x5AA5_0FF0_1234_5678;
-
-/// 01's case b in bytes: P7 with organisation cost 5.
-const CASE_B: [u8; 28] = [
-    0x0C, 0, 0x64, 0, 1, 0, 0, 0, 1, 0, 0, 0, // sheet: edition 1, 1 routine
-    8, 0, 1, 0, 5, 0, 0, 0, // routine: organisation cost 5
-    8, 0, 2, 0, 7, 0, 0, 0, // primitive: cost 7
-];
-
-fn camera(name: &str) -> Vec<u8> {
-    let path = format!("{}/../../sheets/{name}.bin", env!("CARGO_MANIFEST_DIR"));
-    std::fs::read(&path).unwrap_or_else(|error| panic!("{path}: {error}"))
-}
-
-fn refused(refusal: Refusal, place: usize) -> Answer {
-    Answer::Refused { refusal, place }
-}
 
 #[test]
 fn case_b_is_12() {
@@ -84,15 +69,17 @@ fn the_routines_of_a_sheet_lie_one_after_the_other() {
 }
 
 #[test]
-fn refusals_are_numbered_from_1_to_12() {
+fn refusals_are_numbered_from_1_to_14() {
     let numbers: Vec<u8> = Refusal::ALL.iter().map(|refusal| refusal.number()).collect();
-    assert_eq!(numbers, (1..=12).collect::<Vec<u8>>());
+    assert_eq!(numbers, (1..=14).collect::<Vec<u8>>());
     assert_eq!(Refusal::NoPlainBranch.name(), "NO PLAIN BRANCH");
     assert_eq!(Refusal::StrayMarker.to_string(), "STRAY MARKER");
+    assert_eq!(Refusal::ShortList.name(), "SHORT LIST");
+    assert_eq!(Refusal::BadDeadline.name(), "BAD DEADLINE");
 }
 
 #[test]
-#[should_panic(expected = "number 13")]
-fn a_number_that_01_does_not_have_is_a_panic() {
-    Answer::of_numbers([13, 0, 0]);
+#[should_panic(expected = "number 15")]
+fn a_number_that_the_documents_do_not_have_is_a_panic() {
+    Answer::of_numbers([15, 0, 0]);
 }

@@ -1,8 +1,13 @@
-/* The archive's two entries for a machine that is not x86-64. Each call goes to the program of serve.c, which runs under the
+/* The archive's three entries for a machine that is not x86-64. Each call goes to the program of serve.c, which runs under the
  * toolchain's emulator and calls the archive itself. Nothing is worked out here.
  *
- * A call is three numbers: 0 and the lengths of sheet and table, or 1, the sheet's length and the routine's number; then the
- * sheet, then the table. Back come the three numbers of the answer and the table, or the two of the part.
+ * A call is five numbers: the entry, the sheet's length and three of the entry's own, 0 where it has fewer; then the sheet and
+ * the lists that are lent. What comes back are the numbers that the entry stores and the lists that it may write:
+ *
+ *     entry           numbers of its own                       lent                         back
+ *     0 maxt_answer   the table's length                       table                        answer, table
+ *     1 maxt_routine  the routine's number                                                  part
+ *     2 maxt_margins  lengths of table, deadlines, margins     table, deadlines, margins    answer, table, margins
  *
  * Built with the four paths EMULATOR, LOADER, LIBRARIES and SERVE as texts.
  */
@@ -61,22 +66,32 @@ static void take(void *bytes, size_t length) {
     }
 }
 
-static void call(uint64_t entry, const uint8_t *sheet, size_t sheet_length, uint64_t last) {
-    uint64_t numbers[3] = {entry, sheet_length, last};
+static void call(const uint64_t numbers[5], const uint8_t *sheet) {
     if (to_program < 0)
         start();
-    give(numbers, sizeof numbers);
-    give(sheet, sheet_length);
+    give(numbers, 5 * sizeof *numbers);
+    give(sheet, numbers[1]);
 }
 
 void maxt_answer(const uint8_t *sheet, size_t sheet_length, uint64_t *table, size_t table_length, uint64_t answer[3]) {
-    call(0, sheet, sheet_length, table_length);
+    call((uint64_t[5]){0, sheet_length, table_length}, sheet);
     give(table, table_length * sizeof *table);
     take(answer, 3 * sizeof *answer);
     take(table, table_length * sizeof *table);
 }
 
 void maxt_routine(const uint8_t *sheet, size_t sheet_length, uint64_t number, uint64_t part[2]) {
-    call(1, sheet, sheet_length, number);
+    call((uint64_t[5]){1, sheet_length, number}, sheet);
     take(part, 2 * sizeof *part);
+}
+
+void maxt_margins(const uint8_t *sheet, size_t sheet_length, uint64_t *table, size_t table_length, const uint64_t *deadlines,
+                  size_t deadlines_length, int64_t *margins, size_t margins_length, uint64_t answer[3]) {
+    call((uint64_t[5]){2, sheet_length, table_length, deadlines_length, margins_length}, sheet);
+    give(table, table_length * sizeof *table);
+    give(deadlines, deadlines_length * sizeof *deadlines);
+    give(margins, margins_length * sizeof *margins);
+    take(answer, 3 * sizeof *answer);
+    take(table, table_length * sizeof *table);
+    take(margins, margins_length * sizeof *margins);
 }

@@ -11,6 +11,8 @@
 long read(int file, void *bytes, size_t length);
 long write(int file, const void *bytes, size_t length);
 void *realloc(void *room, size_t length);
+void *memcpy(void *to, const void *from, size_t length);
+int memcmp(const void *one, const void *other, size_t length);
 _Noreturn void _exit(int status);
 
 enum { INPUT = 0, OUTPUT = 1, BROKEN = 3 };
@@ -46,37 +48,70 @@ static void *room_for(void *room, size_t length) {
     return room;
 }
 
-/* The table is lent between two places that nobody may touch. */
-static void answer_call(const uint8_t *sheet, size_t sheet_length, size_t table_length) {
-    static const uint64_t untouched = 0x0DD0CAFE;
-    static uint64_t *room = NULL;
-    uint64_t answer[3];
-    room = room_for(room, (table_length + 2) * sizeof *room);
-    room[0] = room[table_length + 1] = untouched;
-    take(room + 1, table_length * sizeof *room);
-    maxt_answer(sheet, sheet_length, room + 1, table_length, answer);
-    if (room[0] != untouched || room[table_length + 1] != untouched)
-        _exit(BROKEN);
-    give(answer, sizeof answer);
-    give(room + 1, table_length * sizeof *room);
+/* A list is lent between two places that nobody may touch. */
+struct list {
+    uint64_t *room;
+    size_t length;
+};
+
+static const uint64_t untouched = 0x0DD0CAFE;
+
+/* Takes a list and returns its first place. */
+static uint64_t *take_list(struct list *list, size_t length) {
+    list->room = room_for(list->room, (length + 2) * sizeof *list->room);
+    list->length = length;
+    list->room[0] = list->room[length + 1] = untouched;
+    take(list->room + 1, length * sizeof *list->room);
+    return list->room + 1;
 }
 
-static void routine_call(const uint8_t *sheet, size_t sheet_length, uint64_t number) {
+static void give_list(const struct list *list) {
+    if (list->room[0] != untouched || list->room[list->length + 1] != untouched)
+        _exit(BROKEN);
+    give(list->room + 1, list->length * sizeof *list->room);
+}
+
+static void answer_call(const uint8_t *sheet, const uint64_t call[5]) {
+    static struct list lent;
+    uint64_t answer[3];
+    uint64_t *table = take_list(&lent, call[2]);
+    maxt_answer(sheet, call[1], table, call[2], answer);
+    give(answer, sizeof answer);
+    give_list(&lent);
+}
+
+static void routine_call(const uint8_t *sheet, const uint64_t call[5]) {
     uint64_t part[2];
-    maxt_routine(sheet, sheet_length, number, part);
+    maxt_routine(sheet, call[1], call[2], part);
     give(part, sizeof part);
 }
 
+/* The deadlines do not go back, so whether they and the places around them are unchanged is seen here. */
+static void margins_call(const uint8_t *sheet, const uint64_t call[5]) {
+    static struct list lent_table, lent_deadlines, lent_margins;
+    static uint64_t *before = NULL;
+    uint64_t answer[3];
+    uint64_t *table = take_list(&lent_table, call[2]);
+    uint64_t *deadlines = take_list(&lent_deadlines, call[3]);
+    int64_t *margins = (int64_t *)take_list(&lent_margins, call[4]);
+    size_t bytes = (call[3] + 2) * sizeof *before;
+    before = memcpy(room_for(before, bytes), lent_deadlines.room, bytes);
+    maxt_margins(sheet, call[1], table, call[2], deadlines, call[3], margins, call[4], answer);
+    if (memcmp(before, lent_deadlines.room, bytes) != 0)
+        _exit(BROKEN);
+    give(answer, sizeof answer);
+    give_list(&lent_table);
+    give_list(&lent_margins);
+}
+
 int main(void) {
+    static void (*const entries[])(const uint8_t *, const uint64_t *) = {answer_call, routine_call, margins_call};
     uint8_t *sheet = NULL;
-    uint64_t call[3];
+    uint64_t call[5];
     while (take(call, sizeof call)) {
         sheet = room_for(sheet, call[1] + 1);
         take(sheet, call[1]);
-        if (call[0] == 0)
-            answer_call(sheet, call[1], call[2]);
-        else
-            routine_call(sheet, call[1], call[2]);
+        entries[call[0]](sheet, call);
     }
     return 0;
 }

@@ -2,23 +2,27 @@
 
 use std::ops::Range;
 
-use crate::calculator::Calculation;
+use crate::calculator::{Answer, Calculation};
+use crate::lists::{filled, Lists};
 use crate::random::Random;
-use crate::sheets::{sheet, Sheet};
+use crate::sheets::{sheet, Sheet, LONGEST};
 use crate::wrong::Wrong;
 
-const TABLE_PLACES: usize = 64;
 const MOST_ROUTINES: u32 = 64;
-/// Places before and behind the lent table that nobody may touch.
-const MARGIN: usize = 2;
-/// Sheets longer than this are asked for their routine parts less often.
+/// Places before and behind a lent list that nobody may touch, and what they hold.
+const GUARDS: usize = 2;
+const GUARD: u32 = 0x0DD0_CAFE;
+/// Sheets longer than this take long, and are asked for routine parts and margins less often.
 const LONG: usize = 4_000;
 
-/// A sheet, the table as it is lent, and the routines that are asked for.
+/// A sheet, the table as it is lent, the routines that are asked for, and what is lent for margins if these are asked for.
 pub struct Question {
     pub sheet: Sheet,
+    /// By no wrong rule.
+    pub calculation: Calculation,
     pub table: Vec<u64>,
     pub routines: Vec<u64>,
+    pub lists: Option<Lists>,
 }
 
 #[derive(PartialEq, Eq)]
@@ -27,40 +31,87 @@ pub struct Reply {
     pub answer: [u64; 3],
     pub table: Vec<u64>,
     pub parts: Vec<Range<usize>>,
+    pub margins: Option<MarginsReply>,
+}
+
+#[derive(PartialEq, Eq)]
+pub struct MarginsReply {
+    pub answer: [u64; 3],
+    pub lists: Lists,
 }
 
 impl Question {
     pub fn of_seed(seed: u64) -> Question {
         let sheet = sheet(seed);
+        let calculation = Calculation::of(&sheet.bytes, None);
         let mut random = Random::new(!seed);
-        let places = if random.below(16) == 0 { random.index(TABLE_PLACES) } else { TABLE_PLACES + random.index(3) };
-        let table = (0..places).map(|_| random.next()).collect();
-        let asked = random.below(if sheet.bytes.len() > LONG { 40 } else { 4 }) == 0;
-        let routines = if asked { routine_numbers(&sheet.bytes, &mut random) } else { Vec::new() };
-        Question { sheet, table, routines }
+        let table = filled(&mut random);
+        let length = sheet.bytes.len();
+        let parts_asked = random.below(if length > LONG { 40 } else { 4 }) == 0;
+        let routines = if parts_asked { routine_numbers(&sheet.bytes, &mut random) } else { Vec::new() };
+        // What is TOO LONG takes no time, and has to meet a short list often enough.
+        let margins_asked = random.below(if (LONG + 1..=LONGEST).contains(&length) { 10 } else { 2 }) == 0;
+        let lists = margins_asked.then(|| Lists::random(&calculation, &mut random));
+        Question { sheet, calculation, table, routines, lists }
     }
 
     pub fn put_to_archive(&self) -> Reply {
-        let mut lent = vec![0x0DD0_CAFE; MARGIN];
-        lent.extend(&self.table);
-        lent.extend([0x0DD0_CAFE; MARGIN]);
-        let end = MARGIN + self.table.len();
-        let answer = maxt::numbers(&self.sheet.bytes, &mut lent[MARGIN..end]);
-        let outside = lent[..MARGIN].iter().chain(&lent[end..]);
-        assert!(outside.copied().all(|place| place == 0x0DD0_CAFE), "the archive wrote outside of its table");
-        let part = |&number: &u64| maxt::routine(&self.sheet.bytes, number);
-        Reply { answer, table: lent[MARGIN..end].to_vec(), parts: self.routines.iter().map(part).collect() }
+        let sheet = &self.sheet.bytes;
+        let mut table = Guarded::around(&self.table);
+        let answer = maxt::numbers(sheet, table.lent());
+        let parts = self.routines.iter().map(|&number| maxt::routine(sheet, number)).collect();
+        let margins = self.lists.as_ref().map(|lists| margins_of_archive(sheet, lists));
+        Reply { answer, table: table.back(), parts, margins }
     }
 
     pub fn put_to(&self, calculation: &Calculation) -> Reply {
         let mut table = self.table.clone();
-        let answer = calculation.answer(&mut table);
+        let answer = numbers(calculation.answer(&mut table));
         let parts = self.routines.iter().map(|&number| calculation.routine(number)).collect();
-        Reply { answer: [answer.number, answer.place as u64, answer.bound], table, parts }
+        let margins = self.lists.clone().map(|mut lists| {
+            let answer = numbers(calculation.margins(&mut lists));
+            MarginsReply { answer, lists }
+        });
+        Reply { answer, table, parts, margins }
     }
 
-    pub fn calculated(&self, wrong: Option<Wrong>) -> Calculation {
-        Calculation::of(&self.sheet.bytes, wrong)
+    pub fn calculated(&self, wrong: Wrong) -> Calculation {
+        Calculation::of(&self.sheet.bytes, Some(wrong))
+    }
+}
+
+fn numbers(answer: Answer) -> [u64; 3] {
+    [answer.number, answer.place as u64, answer.bound]
+}
+
+/// The deadlines come back too: nobody may write to them.
+fn margins_of_archive(sheet: &[u8], lists: &Lists) -> MarginsReply {
+    let (mut table, mut deadlines) = (Guarded::around(&lists.table), Guarded::around(&lists.deadlines));
+    let mut margins = Guarded::around(&lists.margins);
+    let answer = maxt::margin_numbers(sheet, table.lent(), deadlines.lent(), margins.lent());
+    MarginsReply { answer, lists: Lists { table: table.back(), deadlines: deadlines.back(), margins: margins.back() } }
+}
+
+/// A list between places that nobody may touch.
+struct Guarded<T>(Vec<T>);
+
+impl<T: Copy + PartialEq + From<u32>> Guarded<T> {
+    fn around(list: &[T]) -> Guarded<T> {
+        let guards = [T::from(GUARD); GUARDS];
+        Guarded([&guards, list, &guards].concat())
+    }
+
+    fn lent(&mut self) -> &mut [T] {
+        let end = self.0.len() - GUARDS;
+        &mut self.0[GUARDS..end]
+    }
+
+    fn back(mut self) -> Vec<T> {
+        let behind = self.0.split_off(self.0.len() - GUARDS);
+        let list = self.0.split_off(GUARDS);
+        let untouched = self.0.iter().chain(&behind).all(|&place| place == T::from(GUARD));
+        assert!(untouched, "the archive wrote outside of a list");
+        list
     }
 }
 

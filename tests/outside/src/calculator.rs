@@ -1,5 +1,6 @@
 //! A calculator for timing sheets, written from document 01 alone: the sheet is read into a tree, then the tree's
-//! records are worked out, then the answer is put together as section "What comes back" says.
+//! records are worked out, then the answer is put together as section "What comes back" says. `margins.rs` adds request
+//! L1 of document 02.
 
 use std::ops::Range;
 
@@ -24,7 +25,7 @@ pub struct Answer {
 pub struct Calculation {
     pub routines: Vec<Routine>,
     /// Of a refused sheet only those worked out before.
-    bounds: Vec<u64>,
+    pub bounds: Vec<u64>,
     refused: Option<Refused>,
     sheet_length: usize,
     wrong: Option<Wrong>,
@@ -50,15 +51,26 @@ impl Calculation {
 
     /// Stores the bounds in the table if the sheet is accepted.
     pub fn answer(&self, table: &mut [u64]) -> Answer {
+        self.answered(self.no_room(table).or(self.own_refusal()), table)
+    }
+
+    pub fn no_room(&self, table: &[u64]) -> Option<Refused> {
         let too_long = self.is(Wrong::TooLongFirst) && self.sheet_length > LONGEST;
-        if table.len() < TABLE_PLACES && !too_long {
-            return Answer { number: NO_ROOM, place: 0, bound: 0 };
-        }
+        (table.len() < TABLE_PLACES && !too_long).then_some(Refused { number: NO_ROOM, place: 0 })
+    }
+
+    /// What the sheet is refused for, whatever is lent.
+    pub fn own_refusal(&self) -> Option<Refused> {
         if self.is(Wrong::RefusesAll) {
-            return Answer { number: CUT, place: 0, bound: 0 };
+            return Some(Refused { number: CUT, place: 0 });
         }
-        if let Some(Refused { number, place }) = self.refused {
-            if self.is(Wrong::StoredBeforeAcceptance) {
+        self.refused
+    }
+
+    /// Stores the bounds in the table if nothing is refused.
+    pub fn answered(&self, refused: Option<Refused>, table: &mut [u64]) -> Answer {
+        if let Some(Refused { number, place }) = refused {
+            if number == TOO_BIG && self.is(Wrong::StoredBeforeAcceptance) {
                 self.store(table);
             }
             return Answer { number, place, bound: 0 };
@@ -68,7 +80,7 @@ impl Calculation {
         Answer { number: 0, place: 0, bound: self.altered(task) }
     }
 
-    fn store(&self, table: &mut [u64]) {
+    pub fn store(&self, table: &mut [u64]) {
         if self.is(Wrong::StoresNothing) {
             return;
         }
@@ -80,7 +92,7 @@ impl Calculation {
         }
     }
 
-    fn altered(&self, bound: u64) -> u64 {
+    pub fn altered(&self, bound: u64) -> u64 {
         match self.wrong {
             Some(Wrong::AlwaysTheLimit) => LIMIT as u64,
             Some(Wrong::FirstForAll) => self.bounds[0],
@@ -108,7 +120,7 @@ impl Calculation {
         self.refused.map_or(Ok(self.bounds.as_slice()), Err)
     }
 
-    fn is(&self, wrong: Wrong) -> bool {
+    pub fn is(&self, wrong: Wrong) -> bool {
         self.wrong == Some(wrong)
     }
 }

@@ -1,7 +1,8 @@
-//! Document 01's own figures, cases a to n, for the calculator alone.
+//! Document 01's own figures, cases a to n, and what document 02's request L1 says of case b, for the calculator alone.
 
-use crate::calculator::Calculation;
-use crate::refusals::{Refused, CUT, TOO_BIG, TOO_LONG};
+use crate::calculator::{Answer, Calculation};
+use crate::lists::Lists;
+use crate::refusals::*;
 use crate::writer::Writer;
 
 fn outcome(organisation: u32, body: impl FnOnce(&mut Writer)) -> Result<Vec<u64>, Refused> {
@@ -100,11 +101,48 @@ fn cases_m_and_n() {
 #[test]
 fn refusals_that_01_prints() {
     let refused = |sheet: &[u8]| Calculation::of(sheet, None).outcome().err();
-    let mut case_b = Writer::sheet();
-    case_b.routine(5);
-    case_b.primitive(7);
-    let case_b = case_b.finish(1).bytes;
-    assert_eq!(refused(&case_b[..20]), Some(Refused { number: CUT, place: 20 }));
+    assert_eq!(refused(&case_b()[..20]), Some(Refused { number: CUT, place: 20 }));
     assert_eq!(refused(&[]), Some(Refused { number: CUT, place: 0 }));
     assert_eq!(refused(&[0; 60_001]), Some(Refused { number: TOO_LONG, place: 0 }));
+}
+
+fn case_b() -> Vec<u8> {
+    let mut writer = Writer::sheet();
+    writer.routine(5);
+    writer.primitive(7);
+    writer.finish(1).bytes
+}
+
+/// The answer with lists of these lengths, the first two deadlines as given, and table and margins after.
+fn with_deadlines(sheet: &[u8], lengths: [usize; 3], first: [u64; 2]) -> (Answer, [u64; 2], [i64; 2]) {
+    let [table, deadlines, margins] = lengths;
+    let mut lent = Lists { table: vec![1; table], deadlines: vec![0; deadlines], margins: vec![1; margins] };
+    lent.deadlines[..2].copy_from_slice(&first);
+    let answer = Calculation::of(sheet, None).margins(&mut lent);
+    assert!(lent.table[2..].iter().all(|&place| place == 1) && lent.margins[2..].iter().all(|&place| place == 1));
+    (answer, [lent.table[0], lent.table[1]], [lent.margins[0], lent.margins[1]])
+}
+
+#[test]
+fn margins_of_case_b() {
+    let accepted = Answer { number: 0, place: 0, bound: 12 };
+    for (deadline, margin) in [(0, -12), (11, -1), (12, 0), (13, 1), (1_099_511_627_775, 1_099_511_627_763)] {
+        let given = with_deadlines(&case_b(), [64; 3], [deadline, u64::MAX]);
+        assert_eq!(given, (accepted, [12, 1], [margin, 1]));
+    }
+}
+
+#[test]
+fn refusals_of_l1_and_their_order() {
+    let refused = |sheet: &[u8], lengths, deadline, number, place| {
+        let given = with_deadlines(sheet, lengths, [deadline, 0]);
+        assert_eq!(given, (Answer { number, place, bound: 0 }, [1, 1], [1, 1]));
+    };
+    let too_long = [0; 60_001];
+    refused(&too_long, [63, 63, 63], u64::MAX, NO_ROOM, 0);
+    refused(&too_long, [64, 63, 64], u64::MAX, SHORT_LIST, 0);
+    refused(&too_long, [64, 64, 63], u64::MAX, SHORT_LIST, 0);
+    refused(&too_long, [64, 64, 64], u64::MAX, TOO_LONG, 0);
+    refused(&case_b()[..20], [64, 64, 64], u64::MAX, CUT, 20);
+    refused(&case_b(), [64, 64, 64], 1_099_511_627_776, BAD_DEADLINE, 1);
 }

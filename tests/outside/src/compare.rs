@@ -1,9 +1,11 @@
 //! Runs the questions and says where the two differ.
 
+use std::fmt::Debug;
 use std::thread;
 
-use crate::asking::{Question, Reply};
+use crate::asking::{MarginsReply, Question, Reply};
 use crate::counts::Counts;
+use crate::lists::Lists;
 use crate::refusals::NAMES;
 use crate::wrong::Wrong;
 
@@ -25,9 +27,8 @@ struct Found {
 pub fn all(first: u64, sheets: u64) -> bool {
     let found = in_threads(first, sheets, |seed, found: &mut Found| {
         let question = Question::of_seed(seed);
-        let calculation = question.calculated(None);
-        let (archive, calculated) = (question.put_to_archive(), question.put_to(&calculation));
-        found.counts.add(&question, &calculation, calculated.answer);
+        let (archive, calculated) = (question.put_to_archive(), question.put_to(&question.calculation));
+        found.counts.add(&question, &calculated);
         if archive != calculated {
             found.differing.push(seed);
         }
@@ -54,7 +55,7 @@ pub fn wrong_rules(numbers: &[usize], first: u64, sheets: u64) -> bool {
         let archive = question.put_to_archive();
         differing.resize(numbers.len(), 0);
         for (count, &number) in differing.iter_mut().zip(numbers) {
-            let calculation = question.calculated(Some(Wrong::ALL[number - 1]));
+            let calculation = question.calculated(Wrong::ALL[number - 1]);
             *count += u64::from(question.put_to(&calculation) != archive);
         }
     });
@@ -95,19 +96,34 @@ fn show(seed: u64) {
         let row: Vec<String> = row.iter().map(|byte| format!("{byte:02X}")).collect();
         println!("    {}", row.join(" "));
     }
+    if let Some(Lists { table, deadlines, margins }) = &question.lists {
+        println!("    for margins: a table of {} places, {} margins, deadlines {deadlines:?}", table.len(), margins.len());
+    }
     say("archive", &question, &question.put_to_archive());
-    say("calculator", &question, &question.put_to(&question.calculated(None)));
+    say("calculator", &question, &question.put_to(&question.calculation));
 }
 
 fn say(who: &str, question: &Question, reply: &Reply) {
-    let [number, place, bound] = reply.answer;
-    let name = NAMES.get(number as usize).unwrap_or(&"unknown");
-    let changed: Vec<usize> = (0..reply.table.len()).filter(|&at| reply.table[at] != question.table[at]).collect();
-    let bounds: Vec<u64> = changed.iter().map(|&at| reply.table[at]).collect();
-    println!("    {who}: {number} {name} at {place}, bound {bound}; places {changed:?} of the table become {bounds:?}");
+    println!("    {who}: {}; the table: {}", named(reply.answer), changes(&question.table, &reply.table));
     let parts = question.routines.iter().zip(&reply.parts);
     let parts: Vec<String> = parts.map(|(number, part)| format!("{number}: {part:?}")).collect();
     if !parts.is_empty() {
         println!("        parts {}", parts.join(", "));
     }
+    if let (Some(lent), Some(MarginsReply { answer, lists })) = (&question.lists, &reply.margins) {
+        println!("        with deadlines: {}; the table: {}", named(*answer), changes(&lent.table, &lists.table));
+        println!("        the deadlines: {}", changes(&lent.deadlines, &lists.deadlines));
+        println!("        the margins: {}", changes(&lent.margins, &lists.margins));
+    }
+}
+
+fn named([number, place, bound]: [u64; 3]) -> String {
+    let name = NAMES.get(number as usize).unwrap_or(&"unknown");
+    format!("{number} {name} at {place}, bound {bound}")
+}
+
+fn changes<T: PartialEq + Debug>(before: &[T], after: &[T]) -> String {
+    let changed: Vec<usize> = (0..after.len()).filter(|&at| after[at] != before[at]).collect();
+    let now: Vec<&T> = changed.iter().map(|&at| &after[at]).collect();
+    format!("places {changed:?} become {now:?}")
 }

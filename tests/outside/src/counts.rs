@@ -2,9 +2,9 @@
 
 use std::collections::HashSet;
 
-use crate::asking::Question;
+use crate::asking::{MarginsReply, Question, Reply};
 use crate::calculator::Calculation;
-use crate::refusals::NAMES;
+use crate::refusals::{NAMES, TOO_BIG};
 use crate::sheets::Shape;
 use crate::tree::{Construct, Form};
 
@@ -22,17 +22,36 @@ const SIZES: [(usize, &str); 7] = [
     (usize::MAX, "over 60,000"),
 ];
 
+/// Those of document 01 alone.
+const NAMES_OF_01: &[&str] = NAMES.split_at(TOO_BIG as usize + 1).0;
+
 #[derive(Default)]
 pub struct Counts {
     pub sheets: u64,
-    answers: [u64; 13],
-    places: [HashSet<u64>; 13],
+    answers: Answers,
+    with_deadlines: Answers,
+    margins: Margins,
     shapes: Vec<(u64, u64)>,
     sizes: [(u64, u64); SIZES.len()],
     damaged: u64,
     parts: u64,
     filled_parts: u64,
     largest: Largest,
+}
+
+/// How often each answer came, by its number, and with which places.
+#[derive(Default)]
+struct Answers {
+    counts: [u64; NAMES.len()],
+    places: [HashSet<u64>; NAMES.len()],
+}
+
+/// Over the sheets accepted with deadlines.
+#[derive(Default)]
+struct Margins {
+    late: u64,
+    just_fit: u64,
+    early: u64,
 }
 
 /// Over the accepted sheets.
@@ -47,26 +66,28 @@ struct Largest {
 }
 
 impl Counts {
-    pub fn add(&mut self, question: &Question, calculation: &Calculation, answer: [u64; 3]) {
-        let [number, place, _] = answer;
+    pub fn add(&mut self, question: &Question, calculated: &Reply) {
         let length = question.sheet.bytes.len();
-        let accepted = u64::from(number == 0);
+        let accepted = calculated.answer[0] == 0;
         self.sheets += 1;
-        self.answers[number as usize] += 1;
-        self.places[number as usize].insert(place);
+        self.answers.add(calculated.answer);
         self.damaged += u64::from(question.sheet.damaged);
         self.shapes.resize(Shape::ALL.len(), (0, 0));
         let size = SIZES.iter().position(|&(end, _)| length < end).unwrap_or(0);
         for (all, taken) in [&mut self.shapes[question.sheet.shape as usize], &mut self.sizes[size]] {
             *all += 1;
-            *taken += accepted;
+            *taken += u64::from(accepted);
         }
-        for &routine in &question.routines {
+        for part in &calculated.parts {
             self.parts += 1;
-            self.filled_parts += u64::from(!calculation.routine(routine).is_empty());
+            self.filled_parts += u64::from(!part.is_empty());
         }
-        if number == 0 {
-            self.largest.add(calculation);
+        if let Some(reply) = &calculated.margins {
+            self.with_deadlines.add(reply.answer);
+            self.margins.add(reply, question.calculation.routines.len());
+        }
+        if accepted {
+            self.largest.add(&question.calculation);
         }
     }
 
@@ -75,10 +96,9 @@ impl Counts {
         self.damaged += other.damaged;
         self.parts += other.parts;
         self.filled_parts += other.filled_parts;
-        for (number, places) in other.places.into_iter().enumerate() {
-            self.answers[number] += other.answers[number];
-            self.places[number].extend(places);
-        }
+        self.answers.merge(other.answers);
+        self.with_deadlines.merge(other.with_deadlines);
+        self.margins.merge(&other.margins);
         self.shapes.resize(Shape::ALL.len(), (0, 0));
         let pairs = self.shapes.iter_mut().zip(other.shapes).chain(self.sizes.iter_mut().zip(other.sizes));
         for (mine, others) in pairs {
@@ -90,9 +110,10 @@ impl Counts {
     pub fn print(&self) {
         println!("{:>8}  sheets, {} of them damaged", self.sheets, self.damaged);
         println!("by answer:");
-        for (number, name) in NAMES.iter().enumerate() {
-            println!("{:>8}  {number:>2} {name}, {} places", self.answers[number], self.places[number].len());
-        }
+        self.answers.print(NAMES_OF_01);
+        println!("by answer with deadlines:");
+        self.with_deadlines.print(&NAMES);
+        self.margins.print();
         println!("by shape:");
         for (shape, &(all, accepted)) in Shape::ALL.iter().zip(&self.shapes) {
             println!("{all:>8}  {}; {accepted} accepted", shape.words());
@@ -107,10 +128,67 @@ impl Counts {
 
     /// What there was too little of.
     pub fn missing(&self) -> Vec<String> {
-        let few =
-            |(count, least, words): (u64, u64, &str)| (count < least).then(|| format!("only {count} {words}, {least} are owed"));
-        let refusals = (1..NAMES.len()).map(|number| (self.answers[number], LEAST_OF_EACH, NAMES[number]));
-        std::iter::once((self.sheets, LEAST_SHEETS, "sheets")).chain(refusals).filter_map(few).collect()
+        let sheets = few(self.sheets, LEAST_SHEETS, "sheets");
+        let answers = self.answers.missing(NAMES_OF_01, "");
+        let with_deadlines = self.with_deadlines.missing(&NAMES, " with deadlines");
+        sheets.into_iter().chain(answers).chain(with_deadlines).collect()
+    }
+}
+
+fn few(count: u64, least: u64, words: &str) -> Option<String> {
+    (count < least).then(|| format!("only {count} {words}, {least} are owed"))
+}
+
+impl Answers {
+    fn add(&mut self, [number, place, _]: [u64; 3]) {
+        self.counts[number as usize] += 1;
+        self.places[number as usize].insert(place);
+    }
+
+    fn merge(&mut self, other: Answers) {
+        for (number, places) in other.places.into_iter().enumerate() {
+            self.counts[number] += other.counts[number];
+            self.places[number].extend(places);
+        }
+    }
+
+    fn print(&self, names: &[&str]) {
+        for (number, name) in names.iter().enumerate() {
+            println!("{:>8}  {number:>2} {name}, {} places", self.counts[number], self.places[number].len());
+        }
+    }
+
+    /// Refusals that there were too few of.
+    fn missing(&self, names: &[&str], how: &str) -> Vec<String> {
+        (1..names.len())
+            .filter_map(|number| few(self.counts[number], LEAST_OF_EACH, &format!("{}{how}", names[number])))
+            .collect()
+    }
+}
+
+impl Margins {
+    fn add(&mut self, reply: &MarginsReply, routines: usize) {
+        if reply.answer[0] != 0 {
+            return;
+        }
+        for margin in &reply.lists.margins[..routines] {
+            match margin {
+                ..0 => self.late += 1,
+                0 => self.just_fit += 1,
+                1.. => self.early += 1,
+            }
+        }
+    }
+
+    fn merge(&mut self, other: &Margins) {
+        self.late += other.late;
+        self.just_fit += other.just_fit;
+        self.early += other.early;
+    }
+
+    fn print(&self) {
+        let Margins { late, just_fit, early } = self;
+        println!("{:>8}  margins: {late} late, {just_fit} just fit, {early} early", late + just_fit + early);
     }
 }
 

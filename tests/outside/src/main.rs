@@ -1,4 +1,4 @@
-//! Compares the proved archive with a calculator written from document 01 alone. README.md says what is compared.
+//! Compares the proved archive with a calculator written from documents 01 and 02 alone. README.md says what is compared.
 
 mod asking;
 mod calculator;
@@ -10,6 +10,8 @@ mod damage;
 mod exact;
 mod grow;
 mod known;
+mod lists;
+mod margins;
 mod random;
 mod reading;
 mod refusals;

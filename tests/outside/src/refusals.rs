@@ -1,4 +1,4 @@
-//! The refusals of document 01, section "What comes back", with its numbers.
+//! The refusals of document 01, section "What comes back", and of document 02's request L1, with their numbers.
 
 pub const NO_ROOM: u64 = 1;
 pub const TOO_LONG: u64 = 2;
@@ -12,9 +12,11 @@ pub const STRAY_MARKER: u64 = 9;
 pub const NO_PLAIN_BRANCH: u64 = 10;
 pub const EXTRA: u64 = 11;
 pub const TOO_BIG: u64 = 12;
+pub const SHORT_LIST: u64 = 13;
+pub const BAD_DEADLINE: u64 = 14;
 
 /// By number; number 0 is acceptance.
-pub const NAMES: [&str; 13] = [
+pub const NAMES: [&str; 15] = [
     "accepted",
     "NO ROOM",
     "TOO LONG",
@@ -28,11 +30,14 @@ pub const NAMES: [&str; 13] = [
     "NO PLAIN BRANCH",
     "EXTRA",
     "TOO BIG",
+    "SHORT LIST",
+    "BAD DEADLINE",
 ];
 
 #[derive(Clone, Copy, Debug, PartialEq, Eq)]
 pub struct Refused {
     pub number: u64,
+    /// An offset in the sheet; of BAD DEADLINE the number of a routine.
     pub place: usize,
 }
 

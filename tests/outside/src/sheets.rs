@@ -6,7 +6,7 @@ use crate::random::Random;
 use crate::tree::*;
 use crate::writer::Writer;
 
-const LONGEST: usize = 60_000;
+pub const LONGEST: usize = 60_000;
 const LIMIT: u64 = (1 << 40) - 1;
 const MOST_ROUTINES: u32 = 64;
 const MOST_CHILDREN: usize = 1_000;
