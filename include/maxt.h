@@ -2,8 +2,8 @@
  *
  * Each entry does what its contract in crates/boundary/src/lib.rt says, for every content of its arguments. What no proof can ask of a
  * program in C, and what that program owes therefore:
- *   - each pointer is followed by its number of elements and leads to that many, readable, and writable where it is not const;
- *     it is not null and is aligned for its type, even where the number is 0;
+ *   - each pointer leads to as many elements as the number after it says, or the brackets behind it, readable, and writable where it is not
+ *     const; it is not null and is aligned for its type, even where the number is 0;
  *   - no two arguments of a call overlap, and no other thread writes to them during the call.
  */
 #ifndef MAXT_H

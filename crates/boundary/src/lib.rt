@@ -56,6 +56,6 @@ pub extern "C" fn maxt_margins(
     ensures { λ _. ⌜ now (margins .exit) ≡
         marginsAfter (planned (now (sheet .entry)) (now (table .entry)) (now (deadlines .entry)) (now (margins .entry))) (now (deadlines .entry)) (now (margins .entry)) ⌝ }
 {
-    let given = margins::margins(sheet, table, deadlines, margins);
-    put(given, answer);
+    let judged = margins::margins(sheet, table, deadlines, margins);
+    put(judged, answer);
 }
