@@ -2,10 +2,10 @@
 use Prim.Native.Nat.{ℕ, zero, suc, _+_, _-_, _≤_, _<_}
 use mathlib.Core.Path.{_≡_, refl, sym, ap, subst, _∙_}
 use mathlib.Core.Bool.{Bool, true, false}
-use mathlib.Core.List.{List, [], _∷_, _++_}
-use mathlib.Core.Option.{Option, some, none}
+use mathlib.Core.List.{List}
+use mathlib.Core.Option.{some, none}
 use mathlib.Core.Logic.{_⊎_, inl, inr}
-use lib.ListN.{length, getD, take, drop, List·getD-append}
+use lib.ListN.{length, take, drop, List·getD-append}
 use lib.IntN.{ℤ, pos, negsuc}
 use lib.Dec.{ltb}
 use borrow.Author.Tests.{ltb-true, ltb-false, lt-ltb, le-ltb}
@@ -25,21 +25,21 @@ use Rattle.reader.proofs.Laws.{pick-same}
 use Rattle.reader.specs.declared.Answer.{Answer}
 use Rattle.reader.specs.declared.Answer.the-variants.{Accepted}
 use Rattle.reader.specs.Said.{saidOf}
-use Rattle.margins.specs.Margins.{lastDeadline, shortList, deadlinesOf, firstOut, held, heldTo, planned, marginOf, marginsOf, marginsAfter}
+use Rattle.margins.specs.Margins.{lastDeadline, shortList, heldTo, planned, marginOf, marginsOf, marginsAfter}
 use Rattle.margins.specs.Steps.{inRange, AtMost}
 use Rattle.margins.proofs.Laws.{left-is, missing-is, those-in-range, next-out, counted, some-out, all-in, margin-at}
-use Rattle.margins.proofs.Plans.{by-sheet}
+use Rattle.margins.proofs.Plans.{Long, by-sheet}
 
 -- the deadlines of so many routines are in range
-abbrev InRange : List ℕ → ℕ → Type 0
-InRange deadlines count = (number : ℕ) → 1 ≤ number → number ≤ count → numbered deadlines number 0 ≤ lastDeadline
+abbrev pub AllInRange : List ℕ → ℕ → Type 0
+AllInRange deadlines count = (number : ℕ) → 1 ≤ number → number ≤ count → numbered deadlines number 0 ≤ lastDeadline
 
 -- by their places and by the numbers of their routines
-of-numbers : (deadlines : List ℕ) (count : ℕ) → AtMost lastDeadline count deadlines → InRange deadlines count
+of-numbers : (deadlines : List ℕ) (count : ℕ) → AtMost lastDeadline count deadlines → AllInRange deadlines count
 of-numbers deadlines count h zero low high = absurd (not-suc-le-zero low)
 of-numbers deadlines count h (suc i) low high = h i high
 
-of-places : (deadlines : List ℕ) (count : ℕ) → InRange deadlines count → AtMost lastDeadline count deadlines
+of-places : (deadlines : List ℕ) (count : ℕ) → AllInRange deadlines count → AtMost lastDeadline count deadlines
 of-places deadlines count h i less = h (suc i) (omega arith) less
 
 -- "the first routine out of range" has this number: its deadline is out of range, and none of those before it is
@@ -62,27 +62,25 @@ first-bad count deadlines few h =
 
 -- What becomes of a sheet and three lists: each refusal exactly when it is due, in the order of the list.
 module _ (s table deadlines : List ℕ) (margins : List ℤ) where
-  pub record Long : Type 0 where
-    pub room : 64 ≤ length table
-    pub long : 64 ≤ length deadlines
-    pub long-too : 64 ≤ length margins
+  abbrev LongEnough : Type 0
+  LongEnough = Long table deadlines margins
 
   pub data Decided : Verdict Sheet → Type 0 where
     no-room : length table < 64 → Decided (refused 1 0)
     short-list : 64 ≤ length table → (length deadlines < 64) ⊎ (length margins < 64) → Decided (refused 13 0)
-    sheet-refused : {number place : ℕ} → Long → outcome s ≡ refused number place → Decided (refused number place)
-    bad-deadline : {t : Sheet} {number : ℕ} → Long → outcome s ≡ accepted t → FirstBad deadlines (length (t .routines)) number → Decided (refused 14 number)
-    good : {t : Sheet} → Long → outcome s ≡ accepted t → InRange deadlines (length (t .routines)) → Decided (accepted t)
+    sheet-refused : {number place : ℕ} → LongEnough → outcome s ≡ refused number place → Decided (refused number place)
+    bad-deadline : {t : Sheet} {number : ℕ} → LongEnough → outcome s ≡ accepted t → FirstBad deadlines (length (t .routines)) number → Decided (refused 14 number)
+    good : {t : Sheet} → LongEnough → outcome s ≡ accepted t → AllInRange deadlines (length (t .routines)) → Decided (accepted t)
 
   -- an accepted sheet's deadlines, by the first of its routines that is out of range
-  by-deadlines : Long → (t : Sheet) → outcome s ≡ accepted t → Decided (heldTo deadlines (accepted t))
+  by-deadlines : LongEnough → (t : Sheet) → outcome s ≡ accepted t → Decided (heldTo deadlines (accepted t))
   by-deadlines long t e = go (ltb (inRange (take n deadlines)) n) refl
     where
       n : ℕ
       n = length (t .routines)
 
       few : n ≤ length deadlines
-      few = omega (arith, few-routines s t e, long .long)
+      few = omega (arith, few-routines s t e, long .for-deadlines)
 
       go : (test : Bool) → ltb (inRange (take n deadlines)) n ≡ test → Decided (heldTo deadlines (accepted t))
       go true q =
@@ -98,7 +96,7 @@ module _ (s table deadlines : List ℕ) (margins : List ℤ) where
   unfolding planned
   decided = by-room (noRoom (length table)) refl
     where
-      by-outcome : Long → (v : Verdict Sheet) → outcome s ≡ v → Decided (heldTo deadlines v)
+      by-outcome : LongEnough → (v : Verdict Sheet) → outcome s ≡ v → Decided (heldTo deadlines v)
       by-outcome long (accepted t) e = by-deadlines long t e
       by-outcome long (refused number place) e = sheet-refused long e
 
@@ -106,7 +104,7 @@ module _ (s table deadlines : List ℕ) (margins : List ℤ) where
           Decided (pick test (refused 13 0) (heldTo deadlines (outcome s)))
       by-margins room long true q = short-list room (inr (ltb-true (length margins) 64 q))
       by-margins room long false q =
-          by-outcome (record { room = room; long = long; long-too = ltb-false (length margins) 64 q }) (outcome s) refl
+          by-outcome (record { room = room; for-deadlines = long; for-margins = ltb-false (length margins) 64 q }) (outcome s) refl
 
       by-list : 64 ≤ length table → (test : Bool) → ltb (length deadlines) 64 ≡ test →
           Decided (pick (pick test true (ltb (length margins) 64)) (refused 13 0) (heldTo deadlines (outcome s)))
@@ -118,26 +116,23 @@ module _ (s table deadlines : List ℕ) (margins : List ℤ) where
       by-room true q = no-room (ltb-true (length table) 64 q)
       by-room false q = by-list (ltb-false (length table) 64 q) (ltb (length deadlines) 64) refl
 
-  by-lists : Long → planned s table deadlines margins ≡ heldTo deadlines (outcome s)
-  by-lists long = by-sheet s table deadlines margins (long .room) (long .long) (long .long-too)
-
   pub planned-is : {v : Verdict Sheet} → Decided v → planned s table deadlines margins ≡ v
   unfolding planned
   planned-is (no-room h) = rw (lt-ltb (length table) 64 h)
   planned-is (short-list h (inl k)) = rw (le-ltb (length table) 64 h, lt-ltb (length deadlines) 64 k)
   planned-is (short-list h (inr k)) = rw (le-ltb (length table) 64 h, lt-ltb (length margins) 64 k, pick-same (ltb (length deadlines) 64) true)
-  planned-is (sheet-refused long e) = by-lists long ∙ ap (heldTo deadlines) e
+  planned-is (sheet-refused long e) = by-sheet s table deadlines margins long ∙ ap (heldTo deadlines) e
   planned-is (bad-deadline {t = t} {number = zero} long e bad) = absurd (not-suc-le-zero (bad .low))
   planned-is (bad-deadline {t = t} {number = suc i} long e bad) =
       let few = few-routines s t e in
       let earlier = of-places deadlines i (λ number low high. bad .first number low (omega arith)) in
-      let here = counted i (length (t .routines)) deadlines (omega (arith, bad .high)) (omega (arith, long .long)) earlier (λ less. bad .out) in
-      by-lists long ∙ ap (heldTo deadlines) e ∙ some-out t deadlines (omega (arith, long .long)) (omega (arith, bad .high)) ∙ ap (λ k. refused 14 k) (omega arith)
+      let here = counted i (length (t .routines)) deadlines (omega (arith, bad .high)) (omega (arith, long .for-deadlines)) earlier (λ less. bad .out) in
+      by-sheet s table deadlines margins long ∙ ap (heldTo deadlines) e ∙ some-out t deadlines (omega (arith, long .for-deadlines)) (omega (arith, bad .high)) ∙ ap (λ k. refused 14 k) (omega arith)
   planned-is (good {t = t} long e all) =
       let few = few-routines s t e in
       let n = length (t .routines) in
-      let here = counted n n deadlines (omega arith) (omega (arith, long .long)) (of-places deadlines n all) (λ less. omega arith) in
-      by-lists long ∙ ap (heldTo deadlines) e ∙ all-in t deadlines (omega (arith, long .long)) (omega arith)
+      let here = counted n n deadlines (omega arith) (omega (arith, long .for-deadlines)) (of-places deadlines n all) (λ less. omega arith) in
+      by-sheet s table deadlines margins long ∙ ap (heldTo deadlines) e ∙ all-in t deadlines (omega (arith, long .for-deadlines)) (omega arith)
 
   -- DEMANDS 1 and 2: a refusal, which leaves all lists as they were, or the bound, and the bounds and margins in the lists
   pub data Answered : Verdict ℕ → List ℕ → List ℤ → Type 0 where
@@ -171,7 +166,7 @@ module _ {s deadlines : List ℕ} {b : ℕ} {after : List ℕ} {written : List �
       subst (RoutineTakes (k .bounds .sheet) number) (sym (missing-is (numbered deadlines number 0) (numbered after number 0) missing (sym (k .margin number low high) ∙ e)))
       (k .bounds .reached-of one number low high)
 
-kept-of : (s table deadlines : List ℕ) (margins : List ℤ) → Long s table deadlines margins → (t : Sheet) → outcome s ≡ accepted t →
+kept-of : (s table deadlines : List ℕ) (margins : List ℤ) → Long table deadlines margins → (t : Sheet) → outcome s ≡ accepted t →
     Kept s deadlines (taskBound t) (stored (accepted t) table) (marginsAfter (accepted t) deadlines margins)
 unfolding answer tableAfter
 kept-of s table deadlines margins long t e =
@@ -188,7 +183,7 @@ kept-of s table deadlines margins long t e =
     margin-of (suc i) low high few =
         let all = length-bounds nothing (t .routines) in
         let inside : i < length (boundsOf t) = omega arith in
-        let (there, same) = margin-at i deadlines (boundsOf t) (omega (arith, long .long)) inside in
+        let (there, same) = margin-at i deadlines (boundsOf t) (omega (arith, long .for-deadlines)) inside in
         rw (
           List·getD-append (marginsOf deadlines (boundsOf t)) (drop (length (t .routines)) margins) (pos 0) i there,
           List·getD-append (boundsOf t) (drop (length (t .routines)) table) 0 i inside,

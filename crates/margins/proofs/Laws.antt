@@ -1,14 +1,13 @@
 -- What the margins' definitions come to, for the code and for those who read the margins.
-use Prim.Native.Nat.{ℕ, zero, suc, _+_, _-_, _^_, _≤_, _<_, zero-le, suc-le-suc}
+use Prim.Native.Nat.{ℕ, zero, suc, _+_, _-_, _≤_, _<_, zero-le, suc-le-suc}
 use mathlib.Core.Path.{_≡_, refl, sym, ap, _∙_, subst}
 use mathlib.Core.Bool.{Bool, true, false}
 use mathlib.Core.List.{List, [], _∷_, _++_}
-use mathlib.Core.Option.{Option, some, none}
+use mathlib.Core.Option.{some, none}
 use lib.ListN.{length, getD, set, take, drop}
 use lib.Seq.{length-take-le}
 use lib.IntN.{ℤ, pos, negsuc, natAbs, pos-ne-negsuc, _-ℤ_}
 use lib.Dec.{ltb}
-use lib.Signed.{mag}
 use mir.Syntax.{w64}
 use mir.Val.{SFits, toZ, ofZ}
 use mir.ValLaws.{toZ-pos, toZ-ofZ}
@@ -17,7 +16,7 @@ use native.Mathlib.Omega.{arith}
 use native.Mathlib.Nat.{le-of-suc-le-suc, not-suc-le-zero}
 use Rattle.meaning.specs.Format.{pick}
 use Rattle.meaning.specs.Tree.{Sheet}
-use Rattle.meaning.specs.Answer.{Verdict, accepted, refused, valueLimit}
+use Rattle.meaning.specs.Answer.{accepted, refused, valueLimit}
 use Rattle.calculator.proofs.Laws.{stored-more}
 use Rattle.margins.specs.Margins.{lastDeadline, deadlinesOf, firstOut, heldTo, marginOf, marginsOf}
 use Rattle.margins.specs.Steps.{inRange, AtMost}

@@ -1,10 +1,10 @@
 -- From what the calculator fills to what `margins` promises.
-use Prim.Native.Nat.{ℕ, zero, suc, _+_, _≤_, _<_, zero-le}
-use mathlib.Core.Path.{_≡_, refl, sym, ap, _∙_, subst}
+use Prim.Native.Nat.{ℕ, _+_, _≤_, _<_, zero-le}
+use mathlib.Core.Path.{_≡_, refl, _∙_, subst}
 use mathlib.Core.Bool.{Bool, true, false}
-use mathlib.Core.List.{List, [], _∷_, _++_}
-use lib.ListN.{length, getD, take, drop, length-append, length-take, length-drop, List·getD-append}
-use lib.Seq.{length-take-le, take-append-seam}
+use mathlib.Core.List.{List, _++_}
+use lib.ListN.{length, take, drop, List·getD-append}
+use lib.Seq.{take-append-seam}
 use lib.IntN.{ℤ}
 use lib.Dec.{ltb}
 use mir.Syntax.{w64}
@@ -12,19 +12,19 @@ use mir.Val.{Fits}
 use borrow.Author.Tests.{ltb-true, ltb-false, lt-ltb, le-ltb}
 use native.Mathlib.Omega.{arith}
 use native.Mathlib.Nat.{not-suc-le-zero}
-use Rattle.meaning.specs.Tree.{Routine, Sheet}
+use Rattle.meaning.specs.Tree.{Sheet}
 use Rattle.meaning.specs.Format.{pick}
-use Rattle.meaning.specs.Value.{Known, bound, knowing, nothing, bounds, boundsOf}
+use Rattle.meaning.specs.Value.{nothing, bounds, boundsOf}
 use Rattle.meaning.specs.Answer.{Verdict, accepted, refused, valueLimit, outcome, told, answer, stored, tableAfter}
 use Rattle.runs.proofs.Reached.{length-bounds}
 use Rattle.demands.proofs.Limit.{small-bounds}
 use Rattle.demands.proofs.Outcome.{accepted-is}
 use Rattle.calculator.specs.Promises.{filledBy, filled}
-use Rattle.margins.specs.Margins.{lastDeadline, held, heldTo, planned, marginsOf, marginsAfter}
+use Rattle.margins.specs.Margins.{lastDeadline, heldTo, planned, marginsOf, marginsAfter}
 use Rattle.margins.specs.Steps.{inRange, AtMost}
 use Rattle.margins.proofs.Laws.{those-in-range, some-out, all-in, margins-first}
 
--- what `fill` leaves in a table of 64 places, of a sheet that this becomes of
+-- what `fill` says and leaves in a table with room, for a sheet with this outcome
 pub record Fills (v : Verdict Sheet) (z : List ℕ) (said : Verdict ℕ) (n : ℕ) (own : List ℕ) : Type 0 where
   pub same : said ≡ told v
   pub count : n ≡ filledBy v
@@ -75,6 +75,12 @@ all-or-none-few good n = go (ltb good n) refl
     go true e = (zero-le, zero-le)
     go false e = (omega arith, ltb-false good n e)
 
+-- three lists that are long enough
+pub record Long (table deadlines : List ℕ) (margins : List ℤ) : Type 0 where
+  pub room : 64 ≤ length table
+  pub for-deadlines : 64 ≤ length deadlines
+  pub for-margins : 64 ≤ length margins
+
 -- what `margins` promises: what is said, the table after and the margins after
 module _ (s table deadlines : List ℕ) (margins : List ℤ) where
   abbrev Plans : Verdict ℕ → List ℕ → List ℤ → Type 0
@@ -95,16 +101,14 @@ module _ (s table deadlines : List ℕ) (margins : List ℤ) where
   short-margins h k l =
       rw (le-ltb (length table) 64 h, le-ltb (length deadlines) 64 k, lt-ltb (length margins) 64 l) (refl, (refl, refl))
 
-  -- with three lists that are long enough it is the sheet and the deadlines that decide
-  pub by-sheet : 64 ≤ length table → 64 ≤ length deadlines → 64 ≤ length margins → planned s table deadlines margins ≡ heldTo deadlines (outcome s)
+  -- with lists that are long enough it is the sheet and the deadlines that decide
+  pub by-sheet : Long table deadlines margins → planned s table deadlines margins ≡ heldTo deadlines (outcome s)
   unfolding planned
-  by-sheet h k l = rw (le-ltb (length table) 64 h, le-ltb (length deadlines) 64 k, le-ltb (length margins) 64 l)
+  by-sheet l = rw (le-ltb (length table) 64 (l .room), le-ltb (length deadlines) 64 (l .for-deadlines), le-ltb (length margins) 64 (l .for-margins))
 
 -- after `fill`, `in_range` and `all_or_none`
 pub record Judged (s table deadlines : List ℕ) (margins : List ℤ) (said : Verdict ℕ) (n : ℕ) (own : List ℕ) (good count : ℕ) : Type 0 where
-  pub room : 64 ≤ length table
-  pub long : 64 ≤ length deadlines
-  pub long-too : 64 ≤ length margins
+  pub long : Long table deadlines margins
   pub before : List ℕ
   pub fills : Fills (outcome s) before said n own
   pub few : n ≤ 64
@@ -129,18 +133,15 @@ module _ (s table deadlines : List ℕ) (margins : List ℤ) {said : Verdict ℕ
 
   module _ {after : List ℕ} {written : List ℤ} (a : after ≡ take count own ++ drop count table)
       (b : written ≡ take count (marginsOf deadlines own) ++ drop count margins) where
-    by-lists : planned s table deadlines margins ≡ heldTo deadlines (outcome s)
-    by-lists = by-sheet s table deadlines margins (j .room) (j .long) (j .long-too)
-
     pub out-of-range : ltb good n ≡ true → Plans s table deadlines margins (refused 14 (good + 1)) after written
     out-of-range e =
         let h : inRange (take n deadlines) < n = rw (j .the-good) at (ltb-true good n e) in
         let none : count ≡ 0 = rw e at (j .the-count) in
-        rw (by-lists, j .the-good, held-out deadlines (outcome s) (j .fills) (omega arith) h) (refl, (rw none at a, rw none at b))
+        rw (by-sheet s table deadlines margins (j .long), j .the-good, held-out deadlines (outcome s) (j .fills) (omega arith) h) (refl, (rw none at a, rw none at b))
 
     pub all-in-range : ltb good n ≡ false → Plans s table deadlines margins said after written
     all-in-range e =
         let h : n ≤ inRange (take n deadlines) = rw (j .the-good) at (ltb-false good n e) in
         let all : count ≡ n = rw e at (j .the-count) in
         let (bounds-in, margins-in) = written-all deadlines (outcome s) (j .fills) table margins (omega arith) in
-        rw (by-lists, held-by-all deadlines (outcome s) (j .fills) (omega arith) h) (j .fills .same, ((rw all at a) ∙ bounds-in, (rw all at b) ∙ margins-in))
+        rw (by-sheet s table deadlines margins (j .long), held-by-all deadlines (outcome s) (j .fills) (omega arith) h) (j .fills .same, ((rw all at a) ∙ bounds-in, (rw all at b) ∙ margins-in))

@@ -9,7 +9,7 @@ use lib.Dec.{ltb}
 use Rattle.meaning.specs.Tree.{Sheet}
 use Rattle.meaning.specs.Format.{pick}
 use Rattle.meaning.specs.Value.{boundsOf}
-use Rattle.meaning.specs.Answer.{Verdict, accepted, refused, outcome, told, noRoom, stored}
+use Rattle.meaning.specs.Answer.{Verdict, accepted, refused, outcome, noRoom}
 
 -- "Deadlines run from 0 to 2^40 - 1"
 abbrev pub lastDeadline : ℕ

@@ -40,9 +40,7 @@ judged c =
     let tests = filled .before .before in
     let (said, (routines, (stored, few))) = filled .fill .ensures in
     record {
-      room = tests .before .before .if1 .left;
-      long = tests .before .if2 .left;
-      long-too = tests .if3 .left;
+      long = record { room = tests .before .before .if1 .left; for-deadlines = tests .before .if2 .left; for-margins = tests .if3 .left };
       before = _;
       fills = filled-so _ _ (search needs) said routines stored;
       few = few;

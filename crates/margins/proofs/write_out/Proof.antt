@@ -3,11 +3,9 @@ use Rattle.calculator.proofs.Laws.{stored-more}
 use Rattle.margins.proofs.Laws.{margins-more}
 use Rattle.margins.specs.Margins.{marginsOf}
 use lib.ListN.{length, take, drop, length-set}
-use lib.IntN.{pos}
 use mathlib.Core.List.{_++_}
-use mathlib.Core.Path.{_≡_, refl, sym, _∙_}
+use mathlib.Core.Path.{_≡_, refl}
 use Prim.Native.Nat.{_≤_, _-_}
-use borrow.Author.Needs.{needs}
 use native.Mathlib.Omega.{arith}
 use Rattle.margins.proofs.write_out.Statement.{statement}
 use Rattle.margins.proofs.write_out.Tie as tie
