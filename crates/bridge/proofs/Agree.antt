@@ -50,10 +50,6 @@ pub data Same (known : Known) (product at : ℕ) : Parsed → Reading Construct 
 abbrev pub Finds : Known → List ℕ → ℕ → Type 0
 Finds known bounds before = (number : ℕ) → 1 ≤ number → number ≤ before → getD bounds (number - 1) 0 ≡ numbered (known .bounds) number 0
 
--- and none of them is over the limit: a call is never the first record that is too big
-abbrev pub Small : List ℕ → Type 0
-Small bounds = (i : ℕ) → getD bounds i 0 ≤ valueLimit
-
 -- how constructs lie in a sheet: a branch, and what leads one, is inside an alternative, and none is both
 abbrev pub occurs : Reach → Bool
 occurs r = pick (r .branch) (pick (r .lead) false (r .alternative)) (pick (r .lead) (r .alternative) true)

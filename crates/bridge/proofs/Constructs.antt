@@ -16,13 +16,14 @@ use Rattle.meaning.specs.Judgement.{Reading, refused, found, andThen, construct
 use Rattle.meaning.specs.Answer.{valueLimit, ended, ends, tooBig}
 use Rattle.meaning.proofs.Laws.{pick-false}
 use Rattle.demands.proofs.Found.{Found, not-read, was-read}
+use Rattle.demands.proofs.Limit.{NoneOverLimit}
 use Rattle.demands.proofs.Good.{good}
 use Rattle.demands.proofs.Records.{Judged, judged-good, Sort, sort}
 use Rattle.demands.proofs.Records.{a-primitive, a-sequence, an-alternative, a-head-loop, a-tail-loop, a-timed-loop, a-call, a-marker}
 use Rattle.records.specs.Records.{foundOf}
 use Rattle.reader.specs.Tallies.{Refused}
 use Rattle.reader.specs.Reader.{ChildReader, ownedOf, constructOf}
-use Rattle.bridge.proofs.Agree.{standingOf, occurs, markNumber, either, Agrees, Same, both-refused, read-done, Finds, Small}
+use Rattle.bridge.proofs.Agree.{standingOf, occurs, markNumber, either, Agrees, Same, both-refused, read-done, Finds}
 use Rattle.bridge.proofs.Standings.{judged-alike}
 use Rattle.bridge.proofs.Marks.{first-most}
 use Rattle.bridge.proofs.Readers.{Alike, Sure, past-record}
@@ -38,7 +39,7 @@ leaf known product at next v m c e h alone free marked =
     let small : tooBig (ended known at c) ≡ none = rw (alone, ← e, le-ltb valueLimit v h) in
     record { reached = refl; over = rw small; amount = λ z. e; small = h; added = λ z. rw free; marked = marked }
 
-module _ (known : Known) (s bounds : List ℕ) (before own : ℕ) (number : own ≡ before + 1) (finds : Finds known bounds before) (small : Small bounds) where
+module _ (known : Known) (s bounds : List ℕ) (before own : ℕ) (number : own ≡ before + 1) (finds : Finds known bounds before) (small : NoneOverLimit bounds) where
   module _ (depth left : ℕ) (read : ChildReader) (g : ConstructReader) (alike : Alike known read g) (sure : Sure s before own number (suc depth) g)
       (r : Reach) (lies : occurs r ≡ true) (last : Bool) (product held at : ℕ) (cap : held ≡ min 1000000 product) (place : 1 ≤ at) where
     owned-law : {x : Record} {next : ℕ} → Sort x → Judged s (construct own left r last) at x next →

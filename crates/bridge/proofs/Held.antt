@@ -14,12 +14,13 @@ use Rattle.meaning.specs.Tree.{Routine}
 use Rattle.meaning.specs.Format.{pick, routinesBytes}
 use Rattle.meaning.specs.Value.{Known, value, bounds, nothing, boundsOf, taskBound}
 use Rattle.meaning.specs.Answer.{ended, endedRoutines, endedOf, tooBig, accepted, partIn}
+use Rattle.demands.proofs.Limit.{NoneOverLimit}
 use Rattle.records.specs.declared.Cursor.{Cursor}
 use Rattle.reader.specs.declared.Bounds.{Bounds}
 use Rattle.reader.specs.declared.Progress.{Progress}
 use Rattle.reader.specs.Reader.{noBounds, boundsWith, progressFrom, progressWith}
 use Rattle.reader.proofs.Under.{set-small, none-small}
-use Rattle.bridge.proofs.Agree.{Over, Agrees, Finds, Small}
+use Rattle.bridge.proofs.Agree.{Over, Agrees, Finds}
 use Rattle.bridge.proofs.Ends.{also, also-none, over-also}
 use Rattle.bridge.proofs.More.{asLoop, Long, placeAfter, sheetWith, more, length-more, place-more, bounds-more, too-big-more, task-more, part-more}
 
@@ -41,7 +42,7 @@ module _ (s : List ℕ) (number edition : ℕ) where
     pub place : progress .at .at ≡ placeAfter rs
     pub many : b .count ≡ length rs
     pub room : length (b .values) ≡ 64
-    pub small : Small (b .values)
+    pub small : NoneOverLimit (b .values)
     pub over : Over (bigIn rs) (progress .over)
     pub values : bigIn rs ≡ none → take (b .count) (b .values) ≡ boundsOf (sheetWith edition rs)
     pub last : bigIn rs ≡ none → progress .last ≡ taskBound (sheetWith edition rs)

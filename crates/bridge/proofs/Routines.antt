@@ -12,12 +12,13 @@ use Rattle.meaning.specs.Judgement.{Reading, Reader, found, andThen, routine, t
 use Rattle.meaning.specs.Answer.{pastRecord}
 use Rattle.demands.proofs.Found.{Found, not-read, was-read, found-then}
 use Rattle.demands.proofs.Records.{Judged, judged-good, routine-is}
+use Rattle.demands.proofs.Limit.{NoneOverLimit}
 use Rattle.demands.proofs.Good.{good}
 use Rattle.records.specs.declared.Cursor.{Cursor}
 use Rattle.records.specs.Records.{headOf}
 use Rattle.reader.specs.Tallies.{Refused, noTally}
 use Rattle.reader.specs.Reader.{onHead, ownerOf, listOf, constructOf, routineOf}
-use Rattle.bridge.proofs.Agree.{Same, both-refused, Finds, Small}
+use Rattle.bridge.proofs.Agree.{Same, both-refused, Finds}
 use Rattle.bridge.proofs.Readers.{then-assoc, past-record}
 use Rattle.bridge.proofs.Loops.{timed-loop-law}
 use Rattle.bridge.proofs.Constructs.{construct-law}
@@ -38,7 +39,7 @@ module _ (s : List ℕ) (before own : ℕ) (number : own ≡ before + 1) where
       let rest = y .span .long in
       was-read {a = r} (omega arith)))
 
-  module _ (known : Known) (bounds : List ℕ) (finds : Finds known bounds before) (small : Small bounds) where
+  module _ (known : Known) (bounds : List ℕ) (finds : Finds known bounds before) (small : NoneOverLimit bounds) where
     -- what follows the record, as the judgement reads it
     abbrev body : Record → Reader Routine
     body x next = andThen (constructAt 24 s own nowhere false next) (λ c past. found (record { organisation = field x 0; body = c }) past)

@@ -163,20 +163,20 @@ sheet-listed s = (routines-listed (s .routines) nothing _, routines-only (s .rou
 pub not-small : {place : ℕ} (s : Sheet) → FirstOver place (endedOf s) → SmallSheet s → ⊥
 not-small s f h = not-both f (sheet-listed s .1 h)
 
--- no bound of a small sheet is over the limit
-abbrev NoBoundOver : List ℕ → Type 0
-NoBoundOver bs = (i : ℕ) → getD bs i 0 ≤ valueLimit
+-- none of the numbers of a list is over the limit; so it is of the bounds of a small sheet
+abbrev pub NoneOverLimit : List ℕ → Type 0
+NoneOverLimit bs = (i : ℕ) → getD bs i 0 ≤ valueLimit
 
-one-bound-more : (bs : List ℕ) {b : ℕ} → NoBoundOver bs → b ≤ valueLimit → NoBoundOver (bs ++ (b ∷ []))
+one-bound-more : (bs : List ℕ) {b : ℕ} → NoneOverLimit bs → b ≤ valueLimit → NoneOverLimit (bs ++ (b ∷ []))
 one-bound-more [] h k zero = k
 one-bound-more [] h k (suc i) = zero-le
 one-bound-more (c ∷ bs) h k zero = h zero
 one-bound-more (c ∷ bs) h k (suc i) = one-bound-more bs (λ j. h (suc j)) k i
 
-small-after : (known : Known) (rs : List Routine) → SmallRoutines known rs → NoBoundOver (known .bounds) → NoBoundOver ((bounds known rs) .bounds)
+small-after : (known : Known) (rs : List Routine) → SmallRoutines known rs → NoneOverLimit (known .bounds) → NoneOverLimit ((bounds known rs) .bounds)
 unfolding bounds
 small-after known [] h k = k
 small-after known (r ∷ rs) (body, own, rest) k = small-after (knowing known (bound known r)) rs rest (one-bound-more (known .bounds) k own)
 
-pub small-bounds : (s : Sheet) → SmallSheet s → (i : ℕ) → getD (boundsOf s) i 0 ≤ valueLimit
+pub small-bounds : (s : Sheet) → SmallSheet s → NoneOverLimit (boundsOf s)
 small-bounds s h = small-after nothing (s .routines) h (λ i. zero-le)

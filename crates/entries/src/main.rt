@@ -208,7 +208,8 @@ fn lists(sheet: &[u8]) {
     plan(sheet, &mut long_table, &long, &mut long_margins);
 }
 
-// The refusals 4 to 12 of the sheet, in order.
+// The refusals 4 to 12 of the sheet, in order. What is changed: a kind, a length, a scope, a call, how many children there are, a scope, a kind,
+// how many routines there are, a cost.
 fn refusals(input: &mut [u8; 65536], n: usize) {
     damaged(input, n, 30, 99);
     damaged(input, n, 20, 12);
