@@ -4,11 +4,11 @@ use borrow.Author.Needs.{needs}
 use Rattle.margins.proofs.margin.Statement.{statement}
 use Rattle.margins.proofs.margin.Tie as tie
 
-sub-result : tie.Need-sub-result
-sub-result c = difference-fits (c .args .deadline) (c .args .bound) (c .pre)
-
 returns : tie.Need-returns
 returns c = difference-read (c .args .deadline) (c .args .bound) (c .pre)
+
+sub-result : tie.Need-sub-result
+sub-result c = difference-fits (c .args .deadline) (c .args .bound) (c .pre)
 
 cast-result : tie.Need-cast-result
 cast-result c = search needs

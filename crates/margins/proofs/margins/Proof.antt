@@ -2,32 +2,9 @@
 use Rattle.margins.proofs.Plans.{filled-so, no-room, short-deadlines, short-margins, Judged, may-write, number-fits, out-of-range, all-in-range}
 use Rattle.reader.specs.Said.{saidOf}
 use borrow.Author.Needs.{needs}
+use native.Mathlib.Omega.{arith}
 use Rattle.margins.proofs.margins.Statement.{statement}
 use Rattle.margins.proofs.margins.Tie as tie
-
-returns : tie.Need-returns
-returns c = no-room _ _ _ _ (c .if1 .taken)
-
-returns-2 : tie.Need-returns-2
-returns-2 c = short-deadlines _ _ _ _ (c .before .if1 .left) (c .if2 .taken)
-
-returns-3 : tie.Need-returns-3
-returns-3 c = short-margins _ _ _ _ (c .before .before .if1 .left) (c .before .if2 .left) (c .if3 .taken)
-
-slice-aggregate-fill : tie.Need-slice-aggregate-fill
-slice-aggregate-fill c = search needs
-
-fill-requires : tie.Need-fill-requires
-fill-requires c κs = search needs
-
-in-range-requires : tie.Need-in-range-requires
-in-range-requires c κs = search needs
-
-all-or-none-requires : tie.Need-all-or-none-requires
-all-or-none-requires c κs = search needs
-
-slice-aggregate-write-out : tie.Need-slice-aggregate-write-out
-slice-aggregate-write-out c = search needs
 
 -- what is known once the routines to write are counted
 judged : (c : tie.After-all-or-none) →
@@ -49,6 +26,40 @@ judged c =
       the-count = c .all-or-none .ensures;
     }
 
+returns-4 : tie.Need-returns-4
+returns-4 c =
+    let written = c .before .before .before .before in
+    out-of-range _ _ _ _ (judged (written .before .before .before .before)) (written .write-out .ensures .0) (written .write-out .ensures .1) (c .if4 .taken)
+
+returns-5 : tie.Need-returns-5
+returns-5 c =
+    let written = c .before .before .before .before in
+    all-in-range _ _ _ _ (judged (written .before .before .before .before)) (written .write-out .ensures .0) (written .write-out .ensures .1) (c .if4 .left)
+
+returns : tie.Need-returns
+returns c = no-room _ _ _ _ (c .if1 .taken)
+
+returns-2 : tie.Need-returns-2
+returns-2 c = short-deadlines _ _ _ _ (c .before .if1 .left) (c .if2 .taken)
+
+returns-3 : tie.Need-returns-3
+returns-3 c = short-margins _ _ _ _ (c .before .before .if1 .left) (c .before .if2 .left) (omega (arith, c .if3 .taken))
+
+slice-aggregate-fill : tie.Need-slice-aggregate-fill
+slice-aggregate-fill c = search needs
+
+fill-requires : tie.Need-fill-requires
+fill-requires c κs = search needs
+
+in-range-requires : tie.Need-in-range-requires
+in-range-requires c κs = search needs
+
+all-or-none-requires : tie.Need-all-or-none-requires
+all-or-none-requires c κs = search needs
+
+slice-aggregate-write-out : tie.Need-slice-aggregate-write-out
+slice-aggregate-write-out c = search needs
+
 write-out-requires : tie.Need-write-out-requires
 write-out-requires c κs = may-write _ _ _ _ (judged (c .before .before .before))
 
@@ -58,21 +69,11 @@ same-length c = search needs
 same-length-2 : tie.Need-same-length-2
 same-length-2 c = search needs
 
-returns-4 : tie.Need-returns-4
-returns-4 c =
-    let written = c .before .before .before .before in
-    out-of-range _ _ _ _ (judged (written .before .before .before .before)) (written .write-out .ensures .0) (written .write-out .ensures .1) (c .if4 .taken)
-
 same-length-3 : tie.Need-same-length-3
 same-length-3 c = search needs
 
 same-length-4 : tie.Need-same-length-4
 same-length-4 c = search needs
-
-returns-5 : tie.Need-returns-5
-returns-5 c =
-    let written = c .before .before .before .before in
-    all-in-range _ _ _ _ (judged (written .before .before .before .before)) (written .write-out .ensures .0) (written .write-out .ensures .1) (c .if4 .left)
 
 add-number : tie.Need-add-number
 add-number c = number-fits _ _ _ _ (judged (c .before .before .before .before .before .before .before .before)) (c .if4 .taken)

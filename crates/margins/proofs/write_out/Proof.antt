@@ -18,6 +18,26 @@ Inv-loop bounds deadlines n table₀ margins₀ i₀ table margins i =
 abbrev μ-loop : tie.MeasureT-loop
 μ-loop bounds deadlines n table₀ margins₀ i₀ table margins i = n - i
 
+loop-again : tie.Need-loop-again Inv-loop μ-loop
+loop-again c =
+    let turn = c .before .before .before .before .before in
+    let args = turn .before .before .before .before .args in
+    let pre = turn .before .before .before .before .pre in
+    let i = turn .loop .i in (
+      rw (turn .loop .inv .0) (stored-more 0 (args .bounds .now) _ i (omega arith) (omega arith)),
+      rw (turn .loop .inv .1)
+          (margins-more (args .deadlines .now) (args .bounds .now) _ i (omega arith) (omega arith) (omega arith)
+          (pre .1 .1 i (omega arith), pre .1 .0 i (omega arith)) (c .margin .ensures)),
+      omega arith,
+      simp length-set (turn .loop .inv .3),
+      simp length-set (turn .loop .inv .4),
+    )
+
+returns : tie.Need-returns Inv-loop μ-loop
+returns c =
+    let all : c .before .loop .i ≡ c .before .before .before .before .before .args .n = omega arith in
+    (rw all at (c .before .loop .inv .0), rw all at (c .before .loop .inv .1))
+
 loop-holds : tie.Need-loop-holds Inv-loop μ-loop
 loop-holds c = (refl, refl, omega arith, refl, refl)
 
@@ -63,31 +83,11 @@ add-i c = omega arith
 loop-less : tie.Need-loop-less Inv-loop μ-loop
 loop-less c = omega arith
 
-loop-again : tie.Need-loop-again Inv-loop μ-loop
-loop-again c =
-    let turn = c .before .before .before .before .before in
-    let args = turn .before .before .before .before .args in
-    let pre = turn .before .before .before .before .pre in
-    let i = turn .loop .i in (
-      rw (turn .loop .inv .0) (stored-more 0 (args .bounds .now) _ i (omega arith) (omega arith)),
-      rw (turn .loop .inv .1)
-          (margins-more (args .deadlines .now) (args .bounds .now) _ i (omega arith) (omega arith) (omega arith)
-          (pre .1 .1 i (omega arith), pre .1 .0 i (omega arith)) (c .margin .ensures)),
-      omega arith,
-      simp length-set (turn .loop .inv .3),
-      simp length-set (turn .loop .inv .4),
-    )
-
 same-length : tie.Need-same-length Inv-loop μ-loop
 same-length c = c .before .loop .inv .3
 
 same-length-2 : tie.Need-same-length-2 Inv-loop μ-loop
 same-length-2 c = c .before .loop .inv .4
-
-returns : tie.Need-returns Inv-loop μ-loop
-returns c =
-    let all : c .before .loop .i ≡ c .before .before .before .before .before .args .n = omega arith in
-    (rw all at (c .before .loop .inv .0), rw all at (c .before .loop .inv .1))
 
 pub write-out-spec : {M : Type 1} → statement M
 write-out-spec =
