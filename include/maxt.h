@@ -39,7 +39,7 @@ enum {
 /* A table with fewer places is refused with MAXT_NO_ROOM, a list of deadlines or of margins with MAXT_SHORT_LIST; no sheet has more routines. */
 #define MAXT_ROUTINES 64
 
-/* A deadline over this is refused with MAXT_BAD_DEADLINE. */
+/* A routine's deadline over this is refused with MAXT_BAD_DEADLINE. */
 #define MAXT_LAST_DEADLINE UINT64_C(1099511627775)
 
 /* Answers a sheet.
