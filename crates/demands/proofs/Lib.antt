@@ -11,3 +11,4 @@ pub mod Written
 pub mod RoundTrip
 pub mod Demand
 pub mod Parts
+pub mod Work

@@ -15,7 +15,7 @@ l = H* 10 (P 0) (P 0) (A (P 0) (S (M 10 0 ∷ P 7 ∷ []) ∷ S (M 10 0 ∷ P 6 
 abbrev m : ℕ → Construct
 m cost = S (T 256 (P 4294967295) (P 0) (S []) ∷ P cost ∷ [])
 
-pub table : List Case
+unfoldable pub table : List Case
 table =
     body (S []) gives 0  -- a
     ∷ routines (R 5 (P 7) ∷ []) gives 12  -- b

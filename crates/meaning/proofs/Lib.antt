@@ -9,3 +9,5 @@ pub mod Returns
 pub mod Columns
 pub mod Legality
 pub mod Laws
+pub mod Works
+pub mod Counts

@@ -4,3 +4,4 @@ pub mod Legal
 pub mod Value
 pub mod Judgement
 pub mod Answer
+pub mod Work
