@@ -1,6 +1,6 @@
 -- The list of an alternative, its condition and its branches: what holds whenever its loop is at its test, how a child keeps it, and its end.
 use Prim.Native.Nat.{ℕ, _+_, _-_, _*_, _≤_, _<_, min}
-use mathlib.Core.Path.{_≡_, refl, sym, ap, _∙_}
+use mathlib.Core.Path.{_≡_, refl, sym, ap, subst, _∙_}
 use mathlib.Core.Bool.{Bool, true, false}
 use mathlib.Core.List.{List}
 use lib.Dec.{eqb}
@@ -10,32 +10,36 @@ use borrow.Author.Tests.{ne-eqb}
 use Rattle.meaning.specs.Format.{pick}
 use Rattle.records.specs.declared.Cursor.{Cursor}
 use Rattle.reader.specs.declared.Parsed.the-variants as parsed
-use Rattle.reader.specs.Tallies.{Aside, asideIs, valueCap, counted, Share, Tally, chargesOf, withOf, keptOf, valueTold, closeOf, toppedOf, asideTold, Valued}
+use Rattle.reader.specs.Tallies.{Aside, asideIs, addedAs, markAs, valueCap, counted, Share, Tally, chargesOf, withOf, keptOf, valueTold, closeOf, toppedOf, asideTold, Countable, Valued}
 use Rattle.reader.specs.Reader.{ownerOf, ChildReader, childOf, listOf, listFrom, Within}
 use Rattle.reader.proofs.Laws.{pick-same, pick-most, no-loop, Kept, kept-alike}
 use Rattle.reader.proofs.Tells.{aside-small, over-kept, Closing, closed}
 use Rattle.reader.proofs.Lists.{list-end}
 use Rattle.reader.proofs.Going.{kept, kept-part, Going, going-first, Child, child-of, child-room, child-more}
-use Rattle.reader.proofs.Constructs.{set-added, set-mark, set-three}
+use Rattle.reader.proofs.Constructs.{set-added, set-mark, set-four, added-countable}
 use Rattle.reader.proofs.Summing.{mark-three}
 
 -- what a child is lent: a branch has no mark yet
 abbrev pub lentTo : Aside → ℕ → ℕ → Aside
-lentTo aside i marked = record { over = aside .over; added = aside .added; mark = pick (eqb i 0) marked 0 }
+lentTo aside i marked = markAs aside (pick (eqb i 0) marked 0)
 
 -- what the code writes for it, and for the end
-pub child-lent : (xs : List ℕ) (x : ℕ) → length xs ≡ 3 → (i marked : ℕ) → x ≡ pick (eqb i 0) marked 0 → asideIs (set xs 2 x) ≡ lentTo (asideIs xs) i marked
-child-lent xs x long i marked e = set-mark xs x long ∙ ap (λ z. record { over = asideIs xs .over; added = asideIs xs .added; mark = z }) e
+pub child-lent : (xs : List ℕ) (x : ℕ) → length xs ≡ 4 → (i marked : ℕ) → x ≡ pick (eqb i 0) marked 0 → asideIs (set xs 2 x) ≡ lentTo (asideIs xs) i marked
+child-lent xs x long i marked e = set-mark xs x long ∙ ap (markAs (asideIs xs)) e
 
-pub added-still : (xs : List ℕ) (mark : ℕ) → length xs ≡ 3 → asideIs xs .added ≤ valueCap → asideIs (set xs 2 mark) .added ≤ valueCap
+pub added-still : (xs : List ℕ) (mark : ℕ) → length xs ≡ 4 → asideIs xs .added ≤ valueCap → asideIs (set xs 2 mark) .added ≤ valueCap
 added-still xs mark long h = aside-small (set-mark xs mark long) h
 
-pub end-told : (xs : List ℕ) (mark x more : ℕ) → length xs ≡ 3 → x ≡ min valueCap (asideIs (set xs 2 mark) .added + more) →
-    asideIs (set (set xs 2 mark) 1 x) ≡ record { over = asideIs xs .over; added = min valueCap (asideIs xs .added + more); mark = mark }
+pub end-countable : (xs : List ℕ) (mark x valued : ℕ) → length xs ≡ 4 → Countable (asideIs xs) valued → Countable (asideIs (set (set xs 2 mark) 1 x)) valued
+end-countable xs mark x valued long h =
+    added-countable (set xs 2 mark) x valued (set-four xs mark long 2) (subst (λ a. Countable a valued) (sym (set-mark xs mark long)) h)
+
+pub end-told : (xs : List ℕ) (mark x more : ℕ) → length xs ≡ 4 → x ≡ min valueCap (asideIs (set xs 2 mark) .added + more) →
+    asideIs (set (set xs 2 mark) 1 x) ≡ addedAs (markAs (asideIs xs) mark) (min valueCap (asideIs xs .added + more))
 end-told xs mark x more long e =
     let marked = set-mark xs mark long in
-    set-added (set xs 2 mark) x (set-three xs mark long 2)
-    ∙ (λ i. record { over = marked i .over; added = (e ∙ ap (λ z. min valueCap (z .added + more)) marked) i; mark = marked i .mark })
+    set-added (set xs 2 mark) x (set-four xs mark long 2)
+    ∙ (λ i. addedAs (marked i) ((e ∙ ap (λ z. min valueCap (z .added + more)) marked) i))
 
 module _ (read : ChildReader) (n start standing product : ℕ) (s lent : List ℕ) (base : ℕ) (from : Cursor) (a : Aside) where
   pub record Branching (marks : List ℕ) (sum top held marked : ℕ) (c : Cursor) (i : ℕ) (aside : Aside) : Type 0 where
@@ -44,8 +48,10 @@ module _ (read : ChildReader) (n start standing product : ℕ) (s lent : List �
     pub sums : sum ≡ t .sum
     pub tops : top ≡ t .top
 
-  pub branching-first : 8 * base ≤ from .at → Within s start (from .at) → a .added ≤ valueCap → Branching lent 0 0 base (a .mark) from 0 a
-  branching-first h w small = record { t = _; going = going-first read (ownerOf 4 n 0 start standing product) s lent (n + 1) base from a h w small; sums = refl; tops = refl }
+  pub branching-first : 8 * base ≤ start → Within s start (from .at) → a .added ≤ valueCap → 8 * a .constructs ≤ start →
+      Branching lent 0 0 base (a .mark) from 0 a
+  branching-first h w small low =
+      record { t = _; going = going-first read (ownerOf 4 n 0 start standing product) s lent (n + 1) base from a h w small low; sums = refl; tops = refl }
 
 module _ {read : ChildReader} {n start standing product : ℕ} {s lent : List ℕ} {base : ℕ} {from : Cursor} {a : Aside} {marks : List ℕ} {sum top held marked : ℕ}
     {c : Cursor} {i : ℕ} {aside : Aside} (g : Branching read n start standing product s lent base from a marks sum top held marked c i aside) where
@@ -54,7 +60,7 @@ module _ {read : ChildReader} {n start standing product : ℕ} {s lent : List �
       (w : Valued (length s) (c .at) (lentTo aside i marked) (childOf read (ownerOf 4 n 0 start standing product) i (held - base) c) (parsed.Value v next) b)
       (spare : length s ≤ 8 * length lent) (more : i < n + 1) (still : take held after ≡ take held marks) (long : length after ≡ length marks) where
     abbrev pub child : Child read (ownerOf 4 n 0 start standing product) s lent (n + 1) base from a marks (g .t) held c i aside marked (lentTo aside i marked) after (w .told) v next b
-    child = child-of after w (g .going) spare (no-loop refl) more refl refl still long
+    child = child-of after w (g .going) spare (no-loop refl) more refl refl refl still long
 
     pub branching-more : {holds : ℕ} {last : List ℕ} → Kept 4 i v (b .mark) held after holds last →
         Branching read n start standing product s lent base from a last (sum + pick (eqb i 0) v 0) (toppedOf top i v (b .mark)) holds
@@ -70,7 +76,7 @@ module _ {read : ChildReader} {n start standing product : ℕ} {s lent : List �
             let told : b .mark ≡ pick (eqb (p .mark) 0) marked (p .mark) =
             ap (λ z. z .mark) (w .aside) ∙ ap (λ z. pick (eqb (p .mark) 0) (pick z marked 0) (p .mark)) e in
             record {
-              t = withOf 4 n i (g .t) v (p .over) (p .added) (p .mark);
+              t = withOf 4 n i (g .t) v (p .over) (p .added) (p .mark) (p .constructs);
               going = child-more child (rw (kept-alike 4 i v (b .mark) (p .mark) (take held after) (rw e)) at keeps) (rw (e, told, g .going .mark) (mark-three (a .mark) (g .t .mark) (p .mark)));
               sums = rw (e, g .sums);
               tops = rw (e, g .tops);
@@ -80,7 +86,7 @@ module _ {read : ChildReader} {n start standing product : ℕ} {s lent : List �
             let told : b .mark ≡ p .mark =
             ap (λ z. z .mark) (w .aside) ∙ ap (λ z. pick (eqb (p .mark) 0) (pick z marked 0) (p .mark)) e ∙ sym (over-kept (p .mark)) in
             record {
-              t = withOf 4 n i (g .t) v (p .over) (p .added) (p .mark);
+              t = withOf 4 n i (g .t) v (p .over) (p .added) (p .mark) (p .constructs);
               going = child-more child (rw told at keeps) (rw (e, pick-same) (g .going .mark));
               sums = rw (e, g .sums) (omega arith);
               tops = rw (e, told, g .tops);
@@ -115,9 +121,9 @@ module _ {read : ChildReader} {n start standing product : ℕ} {s lent : List �
   -- the end: what the marked branches add is added
   pub branching-ends : {z : Aside} {value more : ℕ} → n + 1 ≤ i → a .added ≤ valueCap →
       more ≡ chargesOf product top 0 (take (held - base) (drop base marks)) →
-      z ≡ record { over = aside .over; added = min valueCap (aside .added + more); mark = marked } → value ≡ sum + top →
+      z ≡ addedAs (markAs aside marked) (min valueCap (aside .added + more)) → value ≡ sum + top →
       Valued (length s) start a (listFrom read (ownerOf 4 n 0 start standing product) (n + 1) from) (parsed.Value (valueTold value) c)
-      (asideTold z value start)
+      (asideTold z value i start)
   branching-ends {z} {value} {more} all small charged same amount =
       let t = g .t in
       let h = g .going in
@@ -129,6 +135,7 @@ module _ {read : ChildReader} {n start standing product : ℕ} {s lent : List �
         over = ap (λ x. x .over) same ∙ h .over;
         added = ap (λ x. x .added) same ∙ omega arith;
         mark = ap (λ x. x .mark) same ∙ h .mark;
+        constructs = ap (λ x. x .constructs + i) same ∙ h .constructs;
         amount = amount ∙ rw (g .sums, g .tops) (omega arith);
         few = h .tally .mark;
         small = small;

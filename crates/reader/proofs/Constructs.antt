@@ -14,44 +14,52 @@ use Rattle.records.specs.declared.Found.the-variants as found
 use Rattle.records.proofs.Founds.{Past, Ranged, ranged}
 use Rattle.reader.specs.declared.Parsed as code
 use Rattle.reader.specs.declared.Parsed.the-variants as parsed
-use Rattle.reader.specs.Tallies.{Aside, asideIs, asideOf, asideOpened, valueTold, asideTold, valueCap, Parsed, Done, Refused, share, Told, Valued, Tells, a-value, a-refusal}
-use Rattle.reader.specs.Reader.{ChildReader, ownedOf, foundAt, constructOf, Lent, Within}
+use Rattle.reader.specs.Tallies.{Aside, asideIs, overAs, addedAs, markAs, constructsAs, asideOf, asideOpened, valueTold, asideTold, Countable, valueCap, Parsed, Done, Refused, share, Told, Valued, Tells, a-value, a-refusal}
+use Rattle.reader.specs.Reader.{ChildReader, ownedOf, foundAt, constructOf, Within}
 use Rattle.reader.proofs.Laws.{pick-most}
 use Rattle.reader.proofs.Tells.{aside-none}
 
--- one of the three places is written
-three : (P : List ℕ → Type 0) → ((a b c : ℕ) → P (a ∷ b ∷ c ∷ [])) → (xs : List ℕ) → length xs ≡ 3 → P xs
-three P h [] e = absurd (omega arith)
-three P h (a ∷ []) e = absurd (omega arith)
-three P h (a ∷ b ∷ []) e = absurd (omega arith)
-three P h (a ∷ b ∷ c ∷ []) e = h a b c
-three P h (a ∷ b ∷ c ∷ d ∷ xs) e = absurd (omega arith)
+-- one of the four places is written
+four : (P : List ℕ → Type 0) → ((a b c d : ℕ) → P (a ∷ b ∷ c ∷ d ∷ [])) → (xs : List ℕ) → length xs ≡ 4 → P xs
+four P h [] e = absurd (omega arith)
+four P h (a ∷ []) e = absurd (omega arith)
+four P h (a ∷ b ∷ []) e = absurd (omega arith)
+four P h (a ∷ b ∷ c ∷ []) e = absurd (omega arith)
+four P h (a ∷ b ∷ c ∷ d ∷ []) e = h a b c d
+four P h (a ∷ b ∷ c ∷ d ∷ x ∷ xs) e = absurd (omega arith)
 
-module _ (xs : List ℕ) (x : ℕ) (long : length xs ≡ 3) where
-  pub set-over : asideIs (set xs 0 x) ≡ record { over = x; added = asideIs xs .added; mark = asideIs xs .mark }
-  set-over = three (λ xs. asideIs (set xs 0 x) ≡ record { over = x; added = asideIs xs .added; mark = asideIs xs .mark }) (λ a b c. refl) xs long
+module _ (xs : List ℕ) (x : ℕ) (long : length xs ≡ 4) where
+  pub set-over : asideIs (set xs 0 x) ≡ overAs (asideIs xs) x
+  set-over = four (λ xs. asideIs (set xs 0 x) ≡ overAs (asideIs xs) x) (λ a b c d. refl) xs long
 
-  pub set-added : asideIs (set xs 1 x) ≡ record { over = asideIs xs .over; added = x; mark = asideIs xs .mark }
-  set-added = three (λ xs. asideIs (set xs 1 x) ≡ record { over = asideIs xs .over; added = x; mark = asideIs xs .mark }) (λ a b c. refl) xs long
+  pub set-added : asideIs (set xs 1 x) ≡ addedAs (asideIs xs) x
+  set-added = four (λ xs. asideIs (set xs 1 x) ≡ addedAs (asideIs xs) x) (λ a b c d. refl) xs long
 
-  pub set-mark : asideIs (set xs 2 x) ≡ record { over = asideIs xs .over; added = asideIs xs .added; mark = x }
-  set-mark = three (λ xs. asideIs (set xs 2 x) ≡ record { over = asideIs xs .over; added = asideIs xs .added; mark = x }) (λ a b c. refl) xs long
+  pub set-mark : asideIs (set xs 2 x) ≡ markAs (asideIs xs) x
+  set-mark = four (λ xs. asideIs (set xs 2 x) ≡ markAs (asideIs xs) x) (λ a b c d. refl) xs long
 
-  pub set-three : (i : ℕ) → length (set xs i x) ≡ 3
-  set-three i = length-set xs i x ∙ long
+  pub set-constructs : asideIs (set xs 3 x) ≡ constructsAs (asideIs xs) x
+  set-constructs = four (λ xs. asideIs (set xs 3 x) ≡ constructsAs (asideIs xs) x) (λ a b c d. refl) xs long
+
+  pub set-four : (i : ℕ) → length (set xs i x) ≡ 4
+  set-four i = length-set xs i x ∙ long
+
+-- so many constructs more can be counted, whatever is added
+pub added-countable : (xs : List ℕ) (x valued : ℕ) → length xs ≡ 4 → Countable (asideIs xs) valued → Countable (asideIs (set xs 1 x)) valued
+added-countable xs x valued long h = subst (λ a. Countable a valued) (sym (set-added xs x long)) h
 
 -- What `opened` and `paid` write, and what is lent to the children of a counted loop, by what was written.
-pub written : (xs : List ℕ) {x y : ℕ} → length xs ≡ 3 → x ≡ y → asideIs (set xs 1 x) ≡ record { over = asideIs xs .over; added = y; mark = asideIs xs .mark }
-written xs {x} long e = set-added xs x long ∙ ap (λ z. record { over = asideIs xs .over; added = z; mark = asideIs xs .mark }) e
+pub written : (xs : List ℕ) {x y : ℕ} → length xs ≡ 4 → x ≡ y → asideIs (set xs 1 x) ≡ addedAs (asideIs xs) y
+written xs {x} long e = set-added xs x long ∙ ap (addedAs (asideIs xs)) e
 
 module _ {a x : Aside} {before : ℕ} (scope : ℕ) (known : before ≡ a .added) (is : x ≡ asideOpened a scope) where
-  pub opened-lends : x ≡ record { over = x .over; added = pick (eqb scope 1) 0 before; mark = x .mark }
+  pub opened-lends : x ≡ addedAs x (pick (eqb scope 1) 0 before)
   opened-lends =
       let added = ap (λ z. z .added) is ∙ ap (λ z. pick (eqb scope 1) 0 z) (sym known) in
-      λ i. record { over = x .over; added = added i; mark = x .mark }
+      λ i. addedAs x (added i)
 
-  pub opened-before : record { over = x .over; added = before; mark = x .mark } ≡ a
-  opened-before = λ i. record { over = is i .over; added = known i; mark = is i .mark }
+  pub opened-before : addedAs x before ≡ a
+  opened-before = λ i. addedAs (is i) (known i)
 
 pub opened-small : {added before : ℕ} → before ≡ added → added ≤ valueCap → before ≤ valueCap
 opened-small e h = rw e h
@@ -59,9 +67,10 @@ opened-small e h = rw e h
 pub paid-small : {added x : ℕ} (scope : ℕ) → x ≡ pick (eqb scope 1) added 0 → added ≤ valueCap → x ≤ valueCap
 paid-small scope e h = rw e (pick-most (eqb scope 1) h (omega arith))
 
-pub same-end : {value other : ℕ} (start : ℕ) {next : Cursor} {z z' b : Aside} {r : code.Parsed} → value ≡ other → z ≡ z' → r ≡ parsed.Value (valueTold value) next →
-    b ≡ asideTold z value start → (r ≡ parsed.Value (valueTold other) next) × (b ≡ asideTold z' other start)
-same-end start e f g h = rw (← e, ← f) (g, h)
+pub same-end : {value other : ℕ} (valued start : ℕ) {next : Cursor} {z z' b : Aside} {r : code.Parsed} → value ≡ other → z ≡ z' →
+    r ≡ parsed.Value (valueTold value) next → b ≡ asideTold z value valued start →
+    (r ≡ parsed.Value (valueTold other) next) × (b ≡ asideTold z' other valued start)
+same-end valued start e f g h = rw (← e, ← f) (g, h)
 
 -- a record that owns nothing comes to the same, however children are read
 alone : (left : ℕ) (s bounds : List ℕ) (own standing product : ℕ) (c : Cursor) {f : Found} {x : Parsed} → foundAt s own left standing c ≡ f →
@@ -84,15 +93,15 @@ module _ (left : ℕ) (s bounds : List ℕ) (own standing product : ℕ) (c : Cu
 
   module _ {a : Aside} (small : a .added ≤ valueCap) where
     -- nothing is told aside but a mark
-    told-alone : {v mark : ℕ} {next : Cursor} {b : Aside} → constructOf left s bounds own standing product c ≡ Done (share v 0 0 mark next) →
-        b ≡ asideOf a 0 0 mark → v ≤ 1099511627775 → mark ≤ 1000001 → Past s left (c .at) next →
+    told-alone : {v mark : ℕ} {next : Cursor} {b : Aside} → constructOf left s bounds own standing product c ≡ Done (share v 0 0 mark 0 next) →
+        b ≡ asideOf a 0 0 mark 0 → v ≤ 1099511627775 → mark ≤ 1000001 → Past s left (c .at) next →
         Valued (length s) (c .at) a (constructOf left s bounds own standing product c) (parsed.Value v next) b
     told-alone {v} {mark} {next} is same low few p = record {
-      told = share v 0 0 mark next;
+      told = share v 0 0 mark 0 next;
       is = is;
       returned = refl;
       aside = same;
-      fine = record { value = low; added = omega arith; mark = few; past = p .past; inside = p .inside };
+      fine = record { value = low; added = omega arith; mark = few; past = omega (arith, p .past); inside = p .inside };
     }
 
     pub primitive-alone : {cost : ℕ} {next : Cursor} → foundAt s own left standing c ≡ found.Primitive cost next →
@@ -113,15 +122,15 @@ module _ (left : ℕ) (s bounds : List ℕ) (own standing product : ℕ) (c : Cu
         go (Ranged.a-call p g h) = told-alone (alone left s bounds own standing product c e (λ read. refl)) (aside-none small) (low (number - 1)) (omega arith) p
 
     pub marker-alone : {limit cost : ℕ} {next : Cursor} {b : Aside} → foundAt s own left standing c ≡ found.Marker limit cost next →
-        b ≡ record { over = a .over; added = a .added; mark = limit + 1 } →
+        b ≡ markAs a (limit + 1) →
         Valued (length s) (c .at) a (constructOf left s bounds own standing product c) (parsed.Value cost next) b
     unfolding ownedOf
     marker-alone {limit} {cost} {next} {b} e f = go (subst (Ranged s own left (c .at)) e (ranged s own left standing (c .at)))
       where
-        marked : b ≡ asideOf a 0 0 (limit + 1)
+        marked : b ≡ asideOf a 0 0 (limit + 1) 0
         marked =
-            let none : a ≡ asideOf a 0 0 0 = aside-none small in
-            f ∙ rw (ne-eqb (limit + 1) 0 (λ z. omega arith)) (λ i. record { over = none i .over; added = none i .added; mark = limit + 1 })
+            let none : a ≡ asideOf a 0 0 0 0 = aside-none small in
+            f ∙ rw (ne-eqb (limit + 1) 0 (λ z. omega arith)) (λ i. markAs (none i) (limit + 1))
 
         go : Ranged s own left (c .at) (found.Marker limit cost next) → Valued (length s) (c .at) a (constructOf left s bounds own standing product c) (parsed.Value cost next) b
         go (Ranged.a-marker p g h) = told-alone (alone left s bounds own standing product c e (λ read. refl)) marked (omega arith) (omega arith) p
@@ -174,19 +183,6 @@ module _ (left : ℕ) (s : List ℕ) (own standing : ℕ) (c : Cursor) where
     where
       go : Ranged s own left (c .at) (found.TimedLoop time next) → Past s left (c .at) next × (time ≤ 4294967295)
       go (Ranged.a-timed-loop p h) = (p, h)
-
--- what the list of a record is lent, past it
-pub lent-list : {s bounds marks aside : List ℕ} {own product held at left : ℕ} {next : Cursor} → Lent s bounds marks aside own product held at → Past s left at next →
-    Lent s bounds marks aside own product held (next .at)
-lent-list l p = record {
-  small = l .small;
-  few = l .few;
-  passes = l .passes;
-  room = l .room;
-  kept = omega (arith, l .kept, p .past);
-  three = l .three;
-  added = l .added;
-}
 
 pub within-list : {s : List ℕ} {left at : ℕ} {next : Cursor} → Past s left at next → Within s at (next .at)
 within-list p = record { past = p .past; inside = p .inside }

@@ -22,9 +22,9 @@ use Rattle.reader.proofs.Laws.{picked}
 pub record Few (r : Report) : Type 0 where
   pub few : r .bounds .count ≤ 64
 
-few-parsed : (x : Parsed) (g : ℕ → ℕ → Report) (f : ℕ → ℕ → ℕ → ℕ → Cursor → Report) → ((k p : ℕ) → Few (g k p)) →
-    ((v o e m : ℕ) (next : Cursor) → Few (f v o e m next)) → Few (onParsed x g f)
-few-parsed (Done p) g f h k = k (p .value) (p .over) (p .added) (p .mark) (p .next)
+few-parsed : (x : Parsed) (g : ℕ → ℕ → Report) (f : ℕ → ℕ → ℕ → ℕ → ℕ → Cursor → Report) → ((k p : ℕ) → Few (g k p)) →
+    ((v o e m k : ℕ) (next : Cursor) → Few (f v o e m k next)) → Few (onParsed x g f)
+few-parsed (Done p) g f h k = k (p .value) (p .over) (p .added) (p .mark) (p .constructs) (p .next)
 few-parsed (Refused number place) g f h k = h number place
 
 few-head : (x : Head) (g : ℕ → ℕ → Report) (f : Read → Report) → ((k p : ℕ) → Few (g k p)) → ((r : Read) → x ≡ head.Good r → Few (f r)) →
@@ -36,8 +36,8 @@ few-routines : (n : ℕ) (s : List ℕ) (number : ℕ) (b : Bounds) (progress : 
 unfolding routinesOf boundsWith
 few-routines zero s number b progress h = record { few = omega arith }
 few-routines (suc n) s number b progress h =
-    few-parsed (routineOf s (b .values) (b .count + 1) (progress .at)) _ _ (λ k p. record { few = omega arith }) (λ v o e m next.
-    few-routines n s number (boundsWith b v) (progressWith progress (b .count + 1) number v o next) (omega arith))
+    few-parsed (routineOf s (b .values) (b .count + 1) (progress .at)) _ _ (λ k p. record { few = omega arith }) (λ v o e m k next.
+    few-routines n s number (boundsWith b v k) (progressWith progress (b .count + 1) number v o next) (omega arith))
 
 none-few : noBounds .count ≤ 0
 unfolding noBounds

@@ -11,7 +11,7 @@ use Rattle.meaning.specs.Format.{pick}
 use Rattle.records.specs.declared.Cursor.{Cursor}
 use Rattle.reader.specs.declared.Parsed as code
 use Rattle.reader.specs.declared.Parsed.the-variants as parsed
-use Rattle.reader.specs.Tallies.{Aside, valueCap, isBranch, Share, Done, Refused, Tally, noTally, withOf, keptOf, asideOf, Counts, Held, Told, Valued}
+use Rattle.reader.specs.Tallies.{Aside, valueCap, isBranch, Share, Done, Refused, Tally, noTally, withOf, keptOf, asideOf, Countable, Counts, Held, Told, Valued}
 use Rattle.reader.specs.Reader.{Owner, ChildReader, childOf, listOf, listFrom, Within}
 use Rattle.reader.proofs.Laws.{Kept, held-more}
 use Rattle.reader.proofs.Tells.{over-kept, over-three}
@@ -70,16 +70,18 @@ module _ (read : ChildReader) (o : Owner) (s lent : List ℕ) (n base : ℕ) (fr
     pub count : i ≤ n
     pub above : base ≤ held
     pub room : 8 * held ≤ c .at
-    pub past : o .start + 8 ≤ c .at
+    pub past : o .start + 8 + 8 * t .constructs ≤ c .at
+    pub before : 8 * first .constructs ≤ o .start
     pub inside : c .at ≤ length s
     pub below : take base marks ≡ take base lent
     pub long : length marks ≡ length lent
     pub over : aside .over ≡ pick (eqb (first .over) 0) (t .over) (first .over)
     pub added : aside .added ≡ min valueCap (first .added + t .added)
     pub mark : marked ≡ pick (eqb (t .mark) 0) (first .mark) (t .mark)
+    pub constructs : aside .constructs + i ≡ first .constructs + t .constructs
 
-  pub going-first : 8 * base ≤ from .at → Within s (o .start) (from .at) → first .added ≤ valueCap → Going lent noTally base from 0 first (first .mark)
-  going-first h w few =
+  pub going-first : 8 * base ≤ o .start → Within s (o .start) (from .at) → first .added ≤ valueCap → 8 * first .constructs ≤ o .start → Going lent noTally base from 0 first (first .mark)
+  going-first h w few low =
       let m = length-take base lent in
       let e : kept base base lent ≡ [] = drop-of-length-le (take base lent) {i = base} (omega arith) in
       let z : n - 0 ≡ n = omega arith in
@@ -88,14 +90,16 @@ module _ (read : ChildReader) (o : Owner) (s lent : List ℕ) (n base : ℕ) (fr
         tally = record { sum = omega arith; top = omega arith; added = omega arith; mark = omega arith };
         count = omega arith;
         above = omega arith;
-        room = h;
-        past = w .past;
+        room = omega (arith, w .past);
+        past = omega (arith, w .past);
+        before = low;
         inside = w .inside;
         below = refl;
         long = refl;
         over = over-kept (first .over);
         added = omega arith;
         mark = refl;
+        constructs = refl;
       }
 
   -- Child i was read, where so much was lent aside, and told p: its value and the cursor past it were returned, and the marks came to those after it.
@@ -107,10 +111,11 @@ module _ (read : ChildReader) (o : Owner) (s lent : List ℕ) (n base : ℕ) (fr
     pub more : i < n
     pub lent-over : lends .over ≡ aside .over
     pub lent-added : lends .added ≡ aside .added
+    pub lent-constructs : lends .constructs ≡ aside .constructs
     pub is : childOf read o i (held - base) c ≡ Done p
     pub value : v ≡ p .value
     pub past : next ≡ p .next
-    pub after-it : b ≡ asideOf lends (p .over) (p .added) (p .mark)
+    pub after-it : b ≡ asideOf lends (p .over) (p .added) (p .mark) (p .constructs)
     pub fine : Told (length s) (c .at) p
     pub still : take held after ≡ take held marks
     pub long : length after ≡ length marks
@@ -130,6 +135,13 @@ module _ {read : ChildReader} {o : Owner} {s lent : List ℕ} {n base : ℕ} {fr
   pub added-small : Going read o s lent n base from first marks t held c i aside marked → aside .added ≤ valueCap
   added-small g = omega (arith, g .added)
 
+  -- there are at least 8 bytes for each construct that was valued
+  pub valued-room : Going read o s lent n base from first marks t held c i aside marked → 8 * aside .constructs ≤ c .at
+  valued-room g = omega (arith, g .constructs, g .past, g .before)
+
+  pub countable : Going read o s lent n base from first marks t held c i aside marked → length s ≤ 60000 → Countable aside i
+  countable g short = omega (arith, g .constructs, g .past, g .before, g .inside)
+
   -- there is room for the marks that are held
   pub held-room : Going read o s lent n base from first marks t held c i aside marked → length s ≤ 8 * length lent → held ≤ length marks
   held-room g spare = omega (arith, g .room, g .inside, g .long)
@@ -144,9 +156,9 @@ module _ {read : ChildReader} {o : Owner} {s lent : List ℕ} {n base : ℕ} {fr
   pub child-of : {lends b : Aside} (after : List ℕ) {v : ℕ} {next : Cursor} →
       (w : Valued (length s) (c .at) lends (childOf read o i (held - base) c) (parsed.Value v next) b) →
       Going read o s lent n base from first marks t held c i aside marked → length s ≤ 8 * length lent → Counts (o .kind) (o .first) → i < n →
-      lends .over ≡ aside .over → lends .added ≡ aside .added → take held after ≡ take held marks → length after ≡ length marks →
+      lends .over ≡ aside .over → lends .added ≡ aside .added → lends .constructs ≡ aside .constructs → take held after ≡ take held marks → length after ≡ length marks →
       Child read o s lent n base from first marks t held c i aside marked lends after (w .told) v next b
-  child-of after w g spare counts more over added still long =
+  child-of after w g spare counts more over added valued still long =
       let e = w .returned in
       record {
         going = g;
@@ -155,6 +167,7 @@ module _ {read : ChildReader} {o : Owner} {s lent : List ℕ} {n base : ℕ} {fr
         more = more;
         lent-over = over;
         lent-added = added;
+        lent-constructs = valued;
         is = w .is;
         value = cc;
         past = cc;
@@ -172,7 +185,7 @@ module _ {read : ChildReader} {o : Owner} {s lent : List ℕ} {n base : ℕ} {fr
 
     -- the tally with it
     abbrev pub tallied : Tally
-    tallied = withOf (o .kind) (o .first) i t v (p .over) (p .added) (p .mark)
+    tallied = withOf (o .kind) (o .first) i t v (p .over) (p .added) (p .mark) (p .constructs)
 
     -- one child more; where it is a marked branch, one mark more is kept
     pub child-more : {holds : ℕ} {last : List ℕ} {marked' : ℕ} → Kept (o .kind) i v (p .mark) held after holds last →
@@ -192,11 +205,12 @@ module _ {read : ChildReader} {o : Owner} {s lent : List ℕ} {n base : ℕ} {fr
         let step' = rw (← k .value, ← k .past) at step in
         record {
           same = rw (is, kept-more (o .kind) i v (p .mark) xs base (omega arith), ← step') (g .same);
-          tally = held-more (p .over) (p .added) (k .counts) (g .tally) (rw (k .value) (fine .value)) (fine .mark);
+          tally = held-more (p .over) (p .added) (p .constructs) (k .counts) (g .tally) (rw (k .value) (fine .value)) (fine .mark);
           count = omega (arith, k .more);
           above = omega (arith, g .above);
           room = omega (arith, g .room, fine .past);
           past = omega (arith, g .past, fine .past);
+          before = g .before;
           inside = omega (arith, fine .inside);
           below =
               sym (take-take base holds last (omega (arith, g .above))) ∙ ap (take base) is
@@ -205,4 +219,5 @@ module _ {read : ChildReader} {o : Owner} {s lent : List ℕ} {n base : ℕ} {fr
           over = ap (λ z. z .over) (k .after-it) ∙ rw (k .lent-over, g .over) (over-three (first .over) (t .over) (p .over));
           added = ap (λ z. z .added) (k .after-it) ∙ rw (k .lent-added, g .added) (omega arith);
           mark = marks-as;
+          constructs = ap (λ z. z .constructs + (i + 1)) (k .after-it) ∙ omega (arith, k .lent-constructs, g .constructs);
         }

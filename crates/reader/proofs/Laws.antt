@@ -82,10 +82,10 @@ pub sum-fits : (kind i : ℕ) {t : Tally} → Held kind i t → (i + 1) * heavie
 sum-fits kind i h k = omega (arith, next-heavier i (heaviest kind), h .sum)
 
 -- what is held after one child more
-pub held-more : {kind count i : ℕ} {t : Tally} {v m : ℕ} (o e : ℕ) → Counts kind count → Held kind i t → v ≤ 1099511627775 → m ≤ 1000001 →
-    Held kind (i + 1) (withOf kind count i t v o e m)
+pub held-more : {kind count i : ℕ} {t : Tally} {v m : ℕ} (o e k : ℕ) → Counts kind count → Held kind i t → v ≤ 1099511627775 → m ≤ 1000001 →
+    Held kind (i + 1) (withOf kind count i t v o e m k)
 unfolding withOf
-held-more {kind} {count} {i} {t} {v} {m} o e counts h small few =
+held-more {kind} {count} {i} {t} {v} {m} o e k counts h small few =
     let n = next-heavier i (heaviest kind) in
     let c = child-small kind count i v counts small in
     let none : t .sum ≤ (i + 1) * heaviest kind = omega (arith, h .sum) in

@@ -12,8 +12,8 @@ use Rattle.reader.specs.Reader.{onParsed, Owner, ChildReader, childOf, l
 module _ (read : ChildReader) (o : Owner) (n i : ℕ) (c : Cursor) (t : Tally) (marks : List ℕ) where
   list-step : i < n →
       listOf read o (n - i) i c t marks
-      ≡ onParsed (childOf read o i (length marks) c) Refused (λ value over added mark next.
-      listOf read o (n - (i + 1)) (i + 1) next (withOf (o .kind) (o .first) i t value over added mark) (keptOf (o .kind) i value mark marks))
+      ≡ onParsed (childOf read o i (length marks) c) Refused (λ value over added mark constructs next.
+      listOf read o (n - (i + 1)) (i + 1) next (withOf (o .kind) (o .first) i t value over added mark constructs) (keptOf (o .kind) i value mark marks))
   unfolding listOf
   list-step h = let e : n - i ≡ suc (n - (i + 1)) = omega arith in rw e
 
@@ -24,7 +24,7 @@ module _ (read : ChildReader) (o : Owner) (n i : ℕ) (c : Cursor) (t : Tally) (
   pub list-done : {p : Share} → i < n → childOf read o i (length marks) c ≡ Done p →
       listOf read o (n - i) i c t marks
       ≡ listOf read o (n - (i + 1)) (i + 1) (p .next)
-      (withOf (o .kind) (o .first) i t (p .value) (p .over) (p .added) (p .mark)) (keptOf (o .kind) i (p .value) (p .mark) marks)
+      (withOf (o .kind) (o .first) i t (p .value) (p .over) (p .added) (p .mark) (p .constructs)) (keptOf (o .kind) i (p .value) (p .mark) marks)
   list-done h e = rw (list-step h, e)
 
   pub list-end : n ≤ i →

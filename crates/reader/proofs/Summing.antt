@@ -9,7 +9,8 @@ use native.Mathlib.Omega.{arith}
 use Rattle.meaning.specs.Format.{pick}
 use Rattle.records.specs.declared.Cursor.{Cursor}
 use Rattle.reader.specs.declared.Parsed.the-variants as parsed
-use Rattle.reader.specs.Tallies.{Aside, valueCap, counted, isBranch, Tally, chargesOf, withOf, valueTold, closeOf, asideTold, heaviest, heaviestSum, Counts, Valued}
+use Rattle.reader.specs.Tallies.{Aside, valueCap, counted, isBranch, Tally, chargesOf, withOf, valueTold, closeOf, asideTold}
+use Rattle.reader.specs.Tallies.{asideOpened, paidOf, asidePaid, heaviest, heaviestSum, Counts, Valued}
 use Rattle.reader.specs.Reader.{Owner, ChildReader, childOf, listOf, listFrom, Within}
 use Rattle.reader.proofs.Laws.{sum-fits, fewer-small, kept-other}
 use Rattle.reader.proofs.Tells.{Closing, closed}
@@ -30,7 +31,7 @@ paid-is sum e = rw e (omega arith)
 
 -- what the children of a record are lent: a scope has nothing added yet
 abbrev pub lentIn : Owner → Aside → Aside
-lentIn o a = record { over = a .over; added = pick (eqb (o .second) 1) 0 (a .added); mark = a .mark }
+lentIn o a = asideOpened a (o .second)
 
 module _ (read : ChildReader) (o : Owner) (s lent : List ℕ) (n base : ℕ) (from : Cursor) (a : Aside) where
   pub record Summing (marks : List ℕ) (sum : ℕ) (c : Cursor) (i : ℕ) (aside : Aside) : Type 0 where
@@ -46,14 +47,15 @@ module _ (read : ChildReader) (o : Owner) (s lent : List ℕ) (n base : ℕ) (fr
       go true = omega arith
       go false = h
 
-  pub summing-first : 8 * base ≤ from .at → Within s (o .start) (from .at) → a .added ≤ valueCap → Summing lent 0 from 0 (lentIn o a)
-  summing-first h w small =
-      record { t = _; going = going-first read o s lent n base from (lentIn o a) h w (lent-small small); sums = refl; flat = refl }
+  pub summing-first : 8 * base ≤ o .start → Within s (o .start) (from .at) → a .added ≤ valueCap → 8 * a .constructs ≤ o .start →
+      Summing lent 0 from 0 (lentIn o a)
+  summing-first h w small low =
+      record { t = _; going = going-first read o s lent n base from (lentIn o a) h w (lent-small small) low; sums = refl; flat = refl }
 
   -- the same where what is lent is known by an equation
-  pub summing-from : {aside : Aside} → aside ≡ lentIn o a → 8 * base ≤ from .at → Within s (o .start) (from .at) → a .added ≤ valueCap →
-      Summing lent 0 from 0 aside
-  summing-from e h w small = rw e (summing-first h w small)
+  pub summing-from : {aside : Aside} → aside ≡ lentIn o a → 8 * base ≤ o .start → Within s (o .start) (from .at) → a .added ≤ valueCap →
+      8 * a .constructs ≤ o .start → Summing lent 0 from 0 aside
+  summing-from e h w small low = rw e (summing-first h w small low)
 
 module _ {read : ChildReader} {o : Owner} {s lent : List ℕ} {n base : ℕ} {from : Cursor} {a : Aside} {marks : List ℕ} {sum : ℕ} {c : Cursor} {i : ℕ}
     {aside : Aside} (g : Summing read o s lent n base from a marks sum c i aside) where
@@ -74,13 +76,13 @@ module _ {read : ChildReader} {o : Owner} {s lent : List ℕ} {n base : ℕ} {fr
   unfolding withOf
   summing-more {b} after {v} w e spare counts more plain still long =
       let p = w .told in
-      let k = child-of after w (g .going) spare counts more refl refl still long in
+      let k = child-of after w (g .going) spare counts more refl refl refl still long in
       let room = child-room k in
       let mark : b .mark ≡ pick (eqb (p .mark) 0) (pick (eqb (g .t .mark) 0) (a .mark) (g .t .mark)) (p .mark) =
       ap (λ z. z .mark) (w .aside) ∙ ap (λ z. pick (eqb (p .mark) 0) z (p .mark)) (g .going .mark) in
       let keeps = kept-other (o .kind) i v (p .mark) base after plain (omega arith) in
       record {
-        t = withOf (o .kind) (o .first) i (g .t) v (p .over) (p .added) (p .mark);
+        t = withOf (o .kind) (o .first) i (g .t) v (p .over) (p .added) (p .mark) (p .constructs);
         going = child-more k keeps (mark ∙ rw plain (mark-three (a .mark) (g .t .mark) (p .mark)));
         sums = rw (plain, g .sums, e);
         flat = rw plain (g .flat);
@@ -88,9 +90,9 @@ module _ {read : ChildReader} {o : Owner} {s lent : List ℕ} {n base : ℕ} {fr
 
   -- the end: a scope pays what its markers add; any other record hands it on
   pub summing-ends : {z : Aside} {value : ℕ} → n ≤ i → a .added ≤ valueCap →
-      z ≡ record { over = aside .over; added = pick (eqb (o .second) 1) (a .added) (aside .added); mark = aside .mark } →
-      value ≡ sum + pick (eqb (o .kind) 7) (o .first) 0 + pick (eqb (o .second) 1) (aside .added) 0 →
-      Valued (length s) (o .start) a (listFrom read o n from) (parsed.Value (valueTold value) c) (asideTold z value (o .start))
+      z ≡ asidePaid aside (o .second) (a .added) →
+      value ≡ sum + pick (eqb (o .kind) 7) (o .first) 0 + paidOf aside (o .second) →
+      Valued (length s) (o .start) a (listFrom read o n from) (parsed.Value (valueTold value) c) (asideTold z value i (o .start))
   unfolding chargesOf
   summing-ends {z} {value} all small same amount =
       let t = g .t in
@@ -104,6 +106,7 @@ module _ {read : ChildReader} {o : Owner} {s lent : List ℕ} {n base : ℕ} {fr
         over = ap (λ x. x .over) same ∙ h .over;
         added = ap (λ x. x .added) same ∙ added;
         mark = ap (λ x. x .mark) same ∙ h .mark;
+        constructs = ap (λ x. x .constructs + i) same ∙ h .constructs;
         amount = amount ∙ rw (g .sums, g .flat, paid) (omega arith);
         few = h .tally .mark;
         small = small;

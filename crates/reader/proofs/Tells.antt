@@ -1,5 +1,5 @@
 -- What a construct that was read tells: by what was returned, and when the record that owns a list ends.
-use Prim.Native.Nat.{ℕ, _+_, _≤_, min}
+use Prim.Native.Nat.{ℕ, _+_, _*_, _≤_, min}
 use mathlib.Core.Path.{_≡_, refl, sym, ap, _∙_}
 use mathlib.Core.Bool.{Bool, true, false}
 use lib.Dec.{eqb, ltb}
@@ -64,6 +64,9 @@ told-ended e f w = rw (e, f) (a-value w)
 pub aside-small : {a b : Aside} → b ≡ a → a .added ≤ valueCap → b .added ≤ valueCap
 aside-small e h = rw e h
 
+pub aside-valued : {a b : Aside} {at : ℕ} → b ≡ a → 8 * a .constructs ≤ at → 8 * b .constructs ≤ at
+aside-valued e h = rw e h
+
 -- a value that is told is in its range
 pub valued-small : {long at : ℕ} {a b : Aside} {x : Parsed} {v : ℕ} {next : Cursor} → Valued long at a x (parsed.Value v next) b → v ≤ valueLimit
 valued-small {v = v} w = let e = w .returned in let same : v ≡ w .told .value = cc in omega (arith, w .fine .value)
@@ -88,14 +91,14 @@ over-ends : (a t start : ℕ) (big : Bool) (x : ℕ) → x ≡ pick (eqb a 0) t 
 over-ends a t start true x e = rw e (over-three a t start)
 over-ends a t start false x e = e ∙ ap (λ z. pick (eqb a 0) z a) (over-kept t)
 
--- what is told aside of a construct of which there is nothing to tell
-pub aside-none : {a : Aside} → a .added ≤ valueCap → a ≡ asideOf a 0 0 0
-aside-none {a} h =
-    let added : a .added ≡ min valueCap (a .added + 0) = omega arith in
-    λ i. record { over = over-kept (a .over) i; added = added i; mark = a .mark }
-
 no-more : (x : ℕ) → x + 0 ≡ x
 no-more x = omega arith
+
+-- what is told aside of a construct of which there is nothing to tell
+pub aside-none : {a : Aside} → a .added ≤ valueCap → a ≡ asideOf a 0 0 0 0
+aside-none {a} h =
+    let added : a .added ≡ min valueCap (a .added + 0) = omega arith in
+    λ i. record { over = over-kept (a .over) i; added = added i; mark = a .mark; constructs = sym (no-more (a .constructs)) i }
 
 -- a value that is told is in its range
 pub told-small : (value : ℕ) → valueTold value ≤ valueLimit
@@ -105,41 +108,44 @@ told-small value = go (ltb valueLimit value) refl
     go true e = omega arith
     go false e = ltb-false valueLimit value e
 
--- A record ends: its list has come to the tally t, its marked branches add so much more; a was told aside before its list, z after it.
-pub record Closing (long kind first second : ℕ) (t : Tally) (more start : ℕ) (next : Cursor) (a z : Aside) (value : ℕ) : Type 0 where
+-- A record ends: its list of so many constructs has come to the tally t, its marked branches add so much more; a was told aside before its
+-- list, z after it.
+pub record Closing (long kind first second : ℕ) (t : Tally) (more start : ℕ) (next : Cursor) (a z : Aside) (value valued : ℕ) : Type 0 where
   pub over : z .over ≡ pick (eqb (a .over) 0) (t .over) (a .over)
   pub added : z .added ≡ pick (eqb second 1) (a .added) (min valueCap (a .added + min valueCap (t .added + more)))
   pub mark : z .mark ≡ pick (eqb (t .mark) 0) (a .mark) (t .mark)
+  pub constructs : z .constructs + valued ≡ a .constructs + t .constructs
   pub amount : value ≡ valueOf kind first t + pick (eqb second 1) (min valueCap (t .added + more)) 0
   pub few : t .mark ≤ 1000001
   pub small : a .added ≤ valueCap
-  pub past : start + 8 ≤ next .at
+  pub past : start + 8 + 8 * t .constructs ≤ next .at
   pub inside : next .at ≤ long
 
-module _ {long kind first second : ℕ} {t : Tally} {more start : ℕ} {next : Cursor} {a z : Aside} {value : ℕ}
-    (k : Closing long kind first second t more start next a z value) where
+module _ {long kind first second : ℕ} {t : Tally} {more start : ℕ} {next : Cursor} {a z : Aside} {value valued : ℕ}
+    (k : Closing long kind first second t more start next a z value valued) where
   ends : (added : ℕ) → added ≤ valueCap → z .added ≡ min valueCap (a .added + added) →
-      Valued long start a (endedOf value (t .over) added (t .mark) start next) (parsed.Value (valueTold value) next) (asideTold z value start)
+      Valued long start a (endedOf value (t .over) added (t .mark) (t .constructs) start next) (parsed.Value (valueTold value) next)
+      (asideTold z value valued start)
   unfolding endedOf
   ends added low e =
       let over = over-ends (a .over) (t .over) start (ltb valueLimit value) (z .over) (k .over) in
       record {
-        told = share (valueTold value) (overTold (t .over) value start) added (t .mark) next;
+        told = share (valueTold value) (overTold (t .over) value start) added (t .mark) (t .constructs) next;
         is = refl;
         returned = refl;
-        aside = λ i. record { over = over i; added = e i; mark = k .mark i };
+        aside = λ i. record { over = over i; added = e i; mark = k .mark i; constructs = k .constructs i };
         fine = record { value = told-small value; added = low; mark = k .few; past = k .past; inside = k .inside };
       }
 
-  pub closed : Valued long start a (closeOf kind first second t more start next) (parsed.Value (valueTold value) next) (asideTold z value start)
+  pub closed : Valued long start a (closeOf kind first second t more start next) (parsed.Value (valueTold value) next) (asideTold z value valued start)
   unfolding closeOf
   closed = go (eqb second 1) refl
     where
       go : (w : Bool) → eqb second 1 ≡ w →
           Valued long start a
-          (pick w (endedOf (valueOf kind first t + min valueCap (t .added + more)) (t .over) 0 (t .mark) start next)
-          (endedOf (valueOf kind first t) (t .over) (min valueCap (t .added + more)) (t .mark) start next))
-          (parsed.Value (valueTold value) next) (asideTold z value start)
+          (pick w (endedOf (valueOf kind first t + min valueCap (t .added + more)) (t .over) 0 (t .mark) (t .constructs) start next)
+          (endedOf (valueOf kind first t) (t .over) (min valueCap (t .added + more)) (t .mark) (t .constructs) start next))
+          (parsed.Value (valueTold value) next) (asideTold z value valued start)
       go true e =
           let amount = rw e at (k .amount) in
           let added = rw e at (k .added) in

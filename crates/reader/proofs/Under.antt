@@ -1,5 +1,5 @@
 -- Laws of what `routine` and `routines` come to, and what holds whenever the loop of `routines` is at its test.
-use Prim.Native.Nat.{ℕ, zero, suc, _+_, _-_, _≤_, _<_}
+use Prim.Native.Nat.{ℕ, zero, suc, _+_, _-_, _*_, _≤_, _<_}
 use mathlib.Core.Path.{_≡_, refl, sym, ap, _∙_}
 use mathlib.Core.List.{List, [], _∷_}
 use lib.ListN.{length, getD, set, replicate}
@@ -44,8 +44,8 @@ none-small (suc n) (suc i) = none-small n i
 module _ (n : ℕ) (s : List ℕ) (number : ℕ) (b : Bounds) (progress : Progress) where
   routines-step : b .count < n →
       routinesOf (n - b .count) s number b progress
-      ≡ onParsed (routineOf s (b .values) (b .count + 1) (progress .at)) (λ k p. reportOf (refusal (length s) k p) b) (λ value over added mark next.
-      routinesOf (n - (b .count + 1)) s number (boundsWith b value) (progressWith progress (b .count + 1) number value over next))
+      ≡ onParsed (routineOf s (b .values) (b .count + 1) (progress .at)) (λ k p. reportOf (refusal (length s) k p) b) (λ value over added mark constructs next.
+      routinesOf (n - (b .count + 1)) s number (boundsWith b value constructs) (progressWith progress (b .count + 1) number value over next))
   unfolding routinesOf
   routines-step h = let e : n - b .count ≡ suc (n - (b .count + 1)) = omega arith in rw e
 
@@ -60,10 +60,11 @@ module _ (n : ℕ) (s lent : List ℕ) (number : ℕ) (none : Bounds) (first : P
     pub few : b .count ≤ n
     pub small : (i : ℕ) → getD (b .values) i 0 ≤ 1099511627775
     pub long : length marks ≡ length lent
+    pub valued : 8 * b .constructs ≤ progress .at .at
 
   pub under-none : none ≡ noBounds → Under lent none first
   unfolding noBounds
-  under-none e = rw e (let z : n - 0 ≡ n = omega arith in record { same = rw z; few = omega arith; small = none-small 64; long = refl })
+  under-none e = rw e (let z : n - 0 ≡ n = omega arith in record { same = rw z; few = omega arith; small = none-small 64; long = refl; valued = omega arith })
 
 module _ {n : ℕ} {s lent : List ℕ} {number : ℕ} {none : Bounds} {first : Progress} {marks : List ℕ} {b : Bounds} {progress : Progress}
     (under : Under n s lent number none first marks b progress) (more : b .count < n) where
@@ -71,30 +72,31 @@ module _ {n : ℕ} {s lent : List ℕ} {number : ℕ} {none : Bounds} {first : P
   turn-refused e = rw (← under .same, routines-step n s number b progress more, e)
 
   -- one routine more was read, and told p
-  told-more : {u : Progress} {v : ℕ} {next : Cursor} (p : Share) (after : List ℕ) → routineOf s (b .values) (b .count + 1) (progress .at) ≡ Done p →
-      Told (length s) (progress .at .at) p → v ≡ p .value → next ≡ p .next → length after ≡ length marks →
+  told-more : {u : Progress} {v constructs : ℕ} {next : Cursor} (p : Share) (after : List ℕ) → routineOf s (b .values) (b .count + 1) (progress .at) ≡ Done p →
+      Told (length s) (progress .at .at) p → v ≡ p .value → next ≡ p .next → constructs ≡ b .constructs + p .constructs → length after ≡ length marks →
       u ≡ progressWith progress (b .count + 1) number v (p .over) next →
-      Under n s lent number none first after (record { values = set (b .values) (b .count) v; count = b .count + 1 }) u
-  unfolding boundsWith
-  told-more {v = v} p after is fine value past long e =
+      Under n s lent number none first after (record { values = set (b .values) (b .count) v; count = b .count + 1; constructs = constructs }) u
+  unfolding boundsWith progressWith
+  told-more {v = v} {next = next} p after is fine value past many long e =
       let step = rw is at (routines-step n s number b progress more) in
       let step' = rw (← value, ← past) at step in
       record {
-        same = rw e (sym step' ∙ under .same);
+        same = rw (e, many) (sym step' ∙ under .same);
         few = omega arith;
         small = set-small (b .values) (b .count) v (under .small) (rw value (fine .value));
         long = long ∙ under .long;
+        valued = rw (e, many) (omega (arith, under .valued, fine .past, ap (λ z. z .at) past));
       }
 
   pub turn-more : {u : Progress} {aside : Aside} {v : ℕ} {next : Cursor} (after : List ℕ) →
-      Valued (length s) (progress .at .at) noAside (routineOf s (b .values) (b .count + 1) (progress .at)) (parsed.Value v next) aside →
+      Valued (length s) (progress .at .at) (noAside (b .constructs)) (routineOf s (b .values) (b .count + 1) (progress .at)) (parsed.Value v next) aside →
       length after ≡ length marks → u ≡ progressWith progress (b .count + 1) number v (aside .over) next →
-      Under n s lent number none first after (record { values = set (b .values) (b .count) v; count = b .count + 1 }) u
+      Under n s lent number none first after (record { values = set (b .values) (b .count) v; count = b .count + 1; constructs = aside .constructs }) u
   turn-more {u} {v = v} {next = next} after w long e =
       let same = w .returned in
       let value : v ≡ w .told .value = cc in
       let past : next ≡ w .told .next = cc in
-      told-more (w .told) after (w .is) (w .fine) value past long (
+      told-more (w .told) after (w .is) (w .fine) value past (ap (λ z. z .constructs) (w .aside)) long (
       e ∙ ap (λ z. progressWith progress (b .count + 1) number v z next) (ap (λ z. z .over) (w .aside)))
 
 module _ (s : List ℕ) (number : ℕ) where

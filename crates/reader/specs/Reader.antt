@@ -30,9 +30,9 @@ abbrev pub onHead : {A : Type 0} → Head → (ℕ → ℕ → A) → (Read → 
 onHead (head.Refused number place) g f = g number place
 onHead (head.Good r) g f = f r
 
--- value, over, added, mark and next of what was read
-abbrev pub onParsed : {A : Type 0} → Parsed → (ℕ → ℕ → A) → (ℕ → ℕ → ℕ → ℕ → Cursor → A) → A
-onParsed (Done p) g f = f (p .value) (p .over) (p .added) (p .mark) (p .next)
+-- value, over, added, mark, constructs and next of what was read
+abbrev pub onParsed : {A : Type 0} → Parsed → (ℕ → ℕ → A) → (ℕ → ℕ → ℕ → ℕ → ℕ → Cursor → A) → A
+onParsed (Done p) g f = f (p .value) (p .over) (p .added) (p .mark) (p .constructs) (p .next)
 onParsed (Refused number place) g f = g number place
 
 -- a record that owns a list: how it stands, and the passes that the counts allow it
@@ -67,22 +67,22 @@ childOf read o i marked =
 unfoldable pub listOf : ChildReader → Owner → ℕ → ℕ → Cursor → Tally → List ℕ → Parsed
 listOf read o zero i c t marks = closeOf (o .kind) (o .first) (o .second) t (chargesOf (o .product) (t .top) 0 marks) (o .start) c
 listOf read o (suc n) i c t marks =
-    onParsed (childOf read o i (length marks) c) Refused (λ value over added mark next.
-    listOf read o n (i + 1) next (withOf (o .kind) (o .first) i t value over added mark) (keptOf (o .kind) i value mark marks))
+    onParsed (childOf read o i (length marks) c) Refused (λ value over added mark constructs next.
+    listOf read o n (i + 1) next (withOf (o .kind) (o .first) i t value over added mark constructs) (keptOf (o .kind) i value mark marks))
 
 abbrev pub listFrom : ChildReader → Owner → ℕ → Cursor → Parsed  -- all n children
 listFrom read o n c = listOf read o n 0 c noTally []
 
 -- a record that was found, at its start, and what it owns
 unfoldable pub ownedOf : ChildReader → List ℕ → ℕ → ℕ → ℕ → Found → Parsed
-ownedOf read bounds start standing product (found.Primitive cost next) = Done (share cost 0 0 0 next)
+ownedOf read bounds start standing product (found.Primitive cost next) = Done (share cost 0 0 0 0 next)
 ownedOf read bounds start standing product (found.Sequence n next) = listFrom read (ownerOf 3 n 0 start standing product) n next
 ownedOf read bounds start standing product (found.Alternative n next) = listFrom read (ownerOf 4 n 0 start standing product) (n + 1) next
 ownedOf read bounds start standing product (found.HeadLoop count scope next) = listFrom read (ownerOf 5 count scope start standing product) 4 next
 ownedOf read bounds start standing product (found.TailLoop count scope next) = listFrom read (ownerOf 6 count scope start standing product) 3 next
 ownedOf read bounds start standing product (found.TimedLoop time next) = listFrom read (ownerOf 7 time 0 start standing product) 1 next
-ownedOf read bounds start standing product (found.Call number next) = Done (share (getD bounds (number - 1) 0) 0 0 0 next)
-ownedOf read bounds start standing product (found.Marker limit cost next) = Done (share cost 0 0 (limit + 1) next)
+ownedOf read bounds start standing product (found.Call number next) = Done (share (getD bounds (number - 1) 0) 0 0 0 0 next)
+ownedOf read bounds start standing product (found.Marker limit cost next) = Done (share cost 0 0 (limit + 1) 0 next)
 ownedOf read bounds start standing product (found.Refused number place) = Refused number place
 
 -- the construct at a cursor, with so many depths left; where none is left, no record is found
@@ -99,12 +99,12 @@ unfoldable pub routineOf : List ℕ → List ℕ → ℕ → Cursor → Parsed
 routineOf s bounds own c =
     onHead (recordOf s routine c) Refused (λ r. listFrom (constructOf 24 s bounds own) (ownerOf 7 (r .first) 0 (c .at) 0 0) 1 (r .next))
 
--- no bounds yet; one more
+-- no bounds yet; one more, for which so many constructs were valued
 unfoldable pub noBounds : Bounds
-noBounds = record { values = replicate 64 0; count = 0 }
+noBounds = record { values = replicate 64 0; count = 0; constructs = 0 }
 
-unfoldable pub boundsWith : Bounds → ℕ → Bounds
-boundsWith b v = record { values = set (b .values) (b .count) v; count = b .count + 1 }
+unfoldable pub boundsWith : Bounds → ℕ → ℕ → Bounds
+boundsWith b v constructs = record { values = set (b .values) (b .count) v; count = b .count + 1; constructs = b .constructs + constructs }
 
 -- a sheet of so many bytes, before its routines and after one more, where the part of a routine is asked for by number
 unfoldable pub progressFrom : ℕ → Cursor → Progress
@@ -139,8 +139,8 @@ reportOf reply b = record { reply = reply; bounds = b }
 unfoldable pub routinesOf : ℕ → List ℕ → ℕ → Bounds → Progress → Report
 routinesOf zero s number b progress = reportOf (verdictOf (length s) progress) b
 routinesOf (suc n) s number b progress =
-    onParsed (routineOf s (b .values) (b .count + 1) (progress .at)) (λ k p. reportOf (refusal (length s) k p) b) (λ value over added mark next.
-    routinesOf n s number (boundsWith b value) (progressWith progress (b .count + 1) number value over next))
+    onParsed (routineOf s (b .values) (b .count + 1) (progress .at)) (λ k p. reportOf (refusal (length s) k p) b) (λ value over added mark constructs next.
+    routinesOf n s number (boundsWith b value constructs) (progressWith progress (b .count + 1) number value over next))
 
 -- the sheet record, then its routines
 unfoldable pub sheetOf : List ℕ → ℕ → Report
@@ -152,22 +152,24 @@ sheetOf s number =
 unfoldable pub readOf : List ℕ → ℕ → Report
 readOf s number = pick (ltb 60000 (length s)) (reportOf (refusal (length s) 2 0) noBounds) (sheetOf s number)
 
--- What the readers are lent: the bounds of earlier routines, room for the marked branches, at least 8 bytes for each that is held, and
--- what is told aside so far.
+-- What the readers are lent: the bounds of earlier routines, room for the marked branches, and what is told aside so far. There are at least
+-- 8 bytes for each marked branch that is held, and for each construct that was valued.
 pub record Lent (s bounds marks aside : List ℕ) (own product held at : ℕ) : Type 0 where
   pub small : (i : ℕ) → getD bounds i 0 ≤ valueLimit
   pub few : own ≤ 64
   pub passes : product ≤ 1000000
   pub room : length s ≤ 8 * length marks
   pub kept : 8 * held ≤ at
-  pub three : length aside ≡ 3
+  pub four : length aside ≡ 4
   pub added : asideIs aside .added ≤ valueCap
+  pub valued : 8 * asideIs aside .constructs ≤ at
+  pub short : length s ≤ 60000
 
 -- what is lent where a construct is read at once
 pub record LentOnce (bounds aside : List ℕ) (own : ℕ) : Type 0 where
   pub small : (i : ℕ) → getD bounds i 0 ≤ valueLimit
   pub few : own ≤ 64
-  pub three : length aside ≡ 3
+  pub four : length aside ≡ 4
   pub added : asideIs aside .added ≤ valueCap
 
 -- a list of constructs starts past the record that owns it, in the sheet

@@ -9,7 +9,7 @@ ghost use lib.ListN.{length, take};
 ghost use Rattle.meaning.specs.Format.{pick};
 ghost use Rattle.meaning.specs.Answer.{valueLimit};
 ghost use Rattle.reader.specs.Tallies.{valueCap, chargeOf, chargesOf, counted, heaviest, heaviestSum, Counts, keptOf, toppedOf};
-ghost use Rattle.reader.specs.Tallies.{asideIs, noAside, asideOpened, paidOf, asidePaid, valueTold, asideTold, Tells, Quickly};
+ghost use Rattle.reader.specs.Tallies.{asideIs, noAside, asideOpened, paidOf, asidePaid, valueTold, asideTold, Countable, Tells, Quickly};
 ghost use Rattle.reader.specs.Ways.{leadOf, bodyOf, innerOf};
 ghost use Rattle.reader.specs.Reader.{listFrom, constructOf, routineOf, noBounds, progressFrom, progressWith, refusal, verdictOf, routinesOf, sheetOf, readOf};
 ghost use Rattle.reader.specs.Reader.{LentOnce, Lent, Within, ownerOf};
@@ -23,13 +23,16 @@ const HIGHEST_LIMIT: u64 = 1000000;
 // Where a marked branch is kept as one number: more than the highest limit.
 const LIMIT_ROOM: u64 = 1048576;
 
-// What is told of the records read besides their values, aside, in three places: where the first one ended with too large a value, 0 for none;
-// what the markers of the scope that is being read add to it; and the limit + 1 of the marker that leads what is being read, 0 for none.
+// What is told of the records read besides their values, aside, in four places: where the first one ended with too large a value, 0 for none;
+// what the markers of the scope that is being read add to it; the limit + 1 of the marker that leads what is being read, 0 for none; and how
+// many constructs were valued in the lists that have ended.
 const OVER: usize = 0;
 
 const ADDED: usize = 1;
 
 const MARK: usize = 2;
+
+const CONSTRUCTS: usize = 3;
 
 // The answer: the task's bound, or a refusal's number and place.
 pub enum Answer {
@@ -37,10 +40,11 @@ pub enum Answer {
     Refused(u64, usize),
 }
 
-// The bounds of the routines read so far, in order.
+// The bounds of the routines read so far, in order, and how many constructs were valued for them.
 pub struct Bounds {
     pub values: [u64; 64],
     pub count: u64,
+    pub constructs: u64,
 }
 
 // The answer, and where the records of the routine that was asked for start and end, or the sheet's end for both.
@@ -207,10 +211,11 @@ fn keep(marks: &mut [u64], held: usize, i: u64, v: u64, mark: u64) -> usize
     held + 1
 }
 
-fn nothing_told() -> [u64; 3]
-    ensures { λ r. ⌜ (asideIs r ≡ noAside) × (length r ≡ 3) ⌝ }
+// Nothing yet but the constructs of the routines before.
+fn nothing_told(constructs: u64) -> [u64; 4]
+    ensures { λ r. ⌜ (asideIs r ≡ noAside constructs) × (length r ≡ 4) ⌝ }
 {
-    [0u64; 3]
+    [0, 0, 0, constructs]
 }
 
 // A construct that owns nothing. Most constructs do, so they are tried first, where their owner's list is read.
@@ -220,12 +225,12 @@ fn at_once(
     bounds: &[u64; 64],
     own: u64,
     left: u64,
-    aside: &mut [u64; 3],
+    aside: &mut [u64; 4],
     standing: u64,
 ) -> Quick
     requires { ⌜ LentOnce (now bounds) (now aside) own ⌝ }
     ensures { λ r. ⌜ Quickly (length (now (s .entry))) (c .at) (asideIs (now (aside .entry))) (λ product. constructOf left (now (s .entry)) (now (bounds .entry)) own standing product c) r (asideIs (now (aside .exit))) ⌝ }
-    ensures { λ _. ⌜ length (now (aside .exit)) ≡ 3 ⌝ }
+    ensures { λ _. ⌜ length (now (aside .exit)) ≡ 4 ⌝ }
 {
     match c.leaf(s, own, left, standing) {
         Leaf::Primitive(cost, next) => Quick::Value(cost, next),
@@ -242,13 +247,14 @@ fn at_once(
     }
 }
 
-// A record ends with a value; the first that is too large is told.
-fn ended(value: u64, aside: &mut [u64; 3], start: usize, next: Cursor) -> Parsed
-    requires { ⌜ length (now aside) ≡ 3 ⌝ }
+// A record ends with a value, once so many constructs of its list are valued; the first value that is too large is told.
+fn ended(value: u64, valued: u64, aside: &mut [u64; 4], start: usize, next: Cursor) -> Parsed
+    requires { ⌜ (length (now aside) ≡ 4) × Countable (asideIs (now aside)) valued ⌝ }
     ensures { λ r. ⌜ r ≡ Parsed.Value (valueTold value) next ⌝ }
-    ensures { λ _. ⌜ asideIs (now (aside .exit)) ≡ asideTold (asideIs (now (aside .entry))) value start ⌝ }
-    ensures { λ _. ⌜ length (now (aside .exit)) ≡ 3 ⌝ }
+    ensures { λ _. ⌜ asideIs (now (aside .exit)) ≡ asideTold (asideIs (now (aside .entry))) value valued start ⌝ }
+    ensures { λ _. ⌜ length (now (aside .exit)) ≡ 4 ⌝ }
 {
+    aside[CONSTRUCTS] = aside[CONSTRUCTS] + valued;
     if VALUE_LIMIT < value {
         aside[OVER] = choose(aside[OVER] == 0, start as u64, aside[OVER]);
         return Parsed::Value(0, next);
@@ -257,11 +263,11 @@ fn ended(value: u64, aside: &mut [u64; 3], start: usize, next: Cursor) -> Parsed
 }
 
 // A counted loop begins: a scope has nothing added yet. What was added before.
-fn opened(scope: u64, aside: &mut [u64; 3]) -> u64
-    requires { ⌜ length (now aside) ≡ 3 ⌝ }
+fn opened(scope: u64, aside: &mut [u64; 4]) -> u64
+    requires { ⌜ length (now aside) ≡ 4 ⌝ }
     ensures { λ r. ⌜ r ≡ asideIs (now (aside .entry)) .added ⌝ }
     ensures { λ _. ⌜ asideIs (now (aside .exit)) ≡ asideOpened (asideIs (now (aside .entry))) scope ⌝ }
-    ensures { λ _. ⌜ length (now (aside .exit)) ≡ 3 ⌝ }
+    ensures { λ _. ⌜ length (now (aside .exit)) ≡ 4 ⌝ }
 {
     let before = aside[ADDED];
     aside[ADDED] = choose(scope == 1, 0, before);
@@ -271,20 +277,22 @@ fn opened(scope: u64, aside: &mut [u64; 3]) -> u64
 // A counted loop ends: a scope pays what its markers add, once; any other loop hands it on.
 fn paid(
     sum: u64,
+    valued: u64,
     scope: u64,
     before: u64,
-    aside: &mut [u64; 3],
+    aside: &mut [u64; 4],
     start: usize,
     next: Cursor,
 ) -> Parsed
-    requires { ⌜ (sum ≤ heaviestSum) × (asideIs (now aside) .added ≤ valueCap) × (length (now aside) ≡ 3) ⌝ }
+    requires { ⌜ (sum ≤ heaviestSum) × (asideIs (now aside) .added ≤ valueCap) × (length (now aside) ≡ 4) × Countable (asideIs (now aside)) valued ⌝ }
     ensures { λ r. ⌜ r ≡ Parsed.Value (valueTold (sum + paidOf (asideIs (now (aside .entry))) scope)) next ⌝ }
-    ensures { λ _. ⌜ asideIs (now (aside .exit)) ≡ asideTold (asidePaid (asideIs (now (aside .entry))) scope before) (sum + paidOf (asideIs (now (aside .entry))) scope) start ⌝ }
-    ensures { λ _. ⌜ length (now (aside .exit)) ≡ 3 ⌝ }
+    ensures { λ _. ⌜ asideIs (now (aside .exit)) ≡
+        asideTold (asidePaid (asideIs (now (aside .entry))) scope before) (sum + paidOf (asideIs (now (aside .entry))) scope) valued start ⌝ }
+    ensures { λ _. ⌜ length (now (aside .exit)) ≡ 4 ⌝ }
 {
     let added = aside[ADDED];
     aside[ADDED] = choose(scope == 1, before, added);
-    ended(sum + choose(scope == 1, added, 0), aside, start, next)
+    ended(sum + choose(scope == 1, added, 0), valued, aside, start, next)
 }
 
 // One construct, with the list that it owns. marks keeps the marked branches of the alternatives that are open, so many of them.
@@ -296,7 +304,7 @@ fn construct(
     left: u64,
     marks: &mut [u64],
     held: usize,
-    aside: &mut [u64; 3],
+    aside: &mut [u64; 4],
     standing: u64,
     product: u64,
 ) -> Parsed
@@ -304,7 +312,7 @@ fn construct(
     ensures { λ r. ⌜ Tells (length (now (s .entry))) (c .at) (asideIs (now (aside .entry))) (constructOf left (now (s .entry)) (now (bounds .entry)) own standing product c) r (asideIs (now (aside .exit))) ⌝ }
     ensures { λ _. ⌜ take held (now (marks .exit)) ≡ take held (now (marks .entry)) ⌝ }
     ensures { λ _. ⌜ length (now (marks .exit)) ≡ length (now (marks .entry)) ⌝ }
-    ensures { λ _. ⌜ length (now (aside .exit)) ≡ 3 ⌝ }
+    ensures { λ _. ⌜ length (now (aside .exit)) ≡ 4 ⌝ }
 {
     let start = c.at;
     match c.construct(s, own, left, standing) {
@@ -405,17 +413,17 @@ fn sequence(
     left: u64,
     marks: &mut [u64],
     held: usize,
-    aside: &mut [u64; 3],
+    aside: &mut [u64; 4],
     standing: u64,
     product: u64,
 ) -> Parsed
-    requires { ⌜ Lent (now s) (now bounds) (now marks) (now aside) own product held (c .at) ⌝ }
+    requires { ⌜ Lent (now s) (now bounds) (now marks) (now aside) own product held start ⌝ }
     requires { ⌜ Within (now s) start (c .at) ⌝ }
     requires { ⌜ n ≤ 1000 ⌝ }
     ensures { λ r. ⌜ Tells (length (now (s .entry))) (start) (asideIs (now (aside .entry))) (listFrom (constructOf left (now (s .entry)) (now (bounds .entry)) own) (ownerOf 3 n 0 start standing product) n c) r (asideIs (now (aside .exit))) ⌝ }
     ensures { λ _. ⌜ take held (now (marks .exit)) ≡ take held (now (marks .entry)) ⌝ }
     ensures { λ _. ⌜ length (now (marks .exit)) ≡ length (now (marks .entry)) ⌝ }
-    ensures { λ _. ⌜ length (now (aside .exit)) ≡ 3 ⌝ }
+    ensures { λ _. ⌜ length (now (aside .exit)) ≡ 4 ⌝ }
 {
     let lead = lead_of(standing);
     let rest = at_most(2, standing);
@@ -445,7 +453,7 @@ fn sequence(
             }
         }
     }
-    ended(sum, aside, start, at)
+    ended(sum, i, aside, start, at)
 }
 
 // The condition and the n branches of an alternative, and its end. A marked branch is kept until the largest plain one is known.
@@ -459,17 +467,17 @@ fn alternative(
     left: u64,
     marks: &mut [u64],
     base: usize,
-    aside: &mut [u64; 3],
+    aside: &mut [u64; 4],
     standing: u64,
     product: u64,
 ) -> Parsed
-    requires { ⌜ Lent (now s) (now bounds) (now marks) (now aside) own product base (c .at) ⌝ }
+    requires { ⌜ Lent (now s) (now bounds) (now marks) (now aside) own product base start ⌝ }
     requires { ⌜ Within (now s) start (c .at) ⌝ }
     requires { ⌜ (2 ≤ n) × (n ≤ 256) ⌝ }
     ensures { λ r. ⌜ Tells (length (now (s .entry))) (start) (asideIs (now (aside .entry))) (listFrom (constructOf left (now (s .entry)) (now (bounds .entry)) own) (ownerOf 4 n 0 start standing product) (n + 1) c) r (asideIs (now (aside .exit))) ⌝ }
     ensures { λ _. ⌜ take base (now (marks .exit)) ≡ take base (now (marks .entry)) ⌝ }
     ensures { λ _. ⌜ length (now (marks .exit)) ≡ length (now (marks .entry)) ⌝ }
-    ensures { λ _. ⌜ length (now (aside .exit)) ≡ 3 ⌝ }
+    ensures { λ _. ⌜ length (now (aside .exit)) ≡ 4 ⌝ }
 {
     let usual = choose(standing == 0, 0, 3);
     let last = choose(standing == 0, 0, 4);
@@ -518,7 +526,7 @@ fn alternative(
     aside[MARK] = mark;
     let more = charges(&marks[base..held], product, top);
     aside[ADDED] = at_most(VALUE_CAP, aside[ADDED] + more);
-    ended(sum + top, aside, start, at)
+    ended(sum + top, i, aside, start, at)
 }
 
 // Init, condition, body and overrun of a head loop, and its end. A scope pays what its markers add.
@@ -533,17 +541,17 @@ fn head_loop(
     left: u64,
     marks: &mut [u64],
     held: usize,
-    aside: &mut [u64; 3],
+    aside: &mut [u64; 4],
     standing: u64,
     product: u64,
 ) -> Parsed
-    requires { ⌜ Lent (now s) (now bounds) (now marks) (now aside) own product held (c .at) ⌝ }
+    requires { ⌜ Lent (now s) (now bounds) (now marks) (now aside) own product held start ⌝ }
     requires { ⌜ Within (now s) start (c .at) ⌝ }
     requires { ⌜ (count ≤ 1000000) × (scope ≤ 1) ⌝ }
     ensures { λ r. ⌜ Tells (length (now (s .entry))) (start) (asideIs (now (aside .entry))) (listFrom (constructOf left (now (s .entry)) (now (bounds .entry)) own) (ownerOf 5 count scope start standing product) 4 c) r (asideIs (now (aside .exit))) ⌝ }
     ensures { λ _. ⌜ take held (now (marks .exit)) ≡ take held (now (marks .entry)) ⌝ }
     ensures { λ _. ⌜ length (now (marks .exit)) ≡ length (now (marks .entry)) ⌝ }
-    ensures { λ _. ⌜ length (now (aside .exit)) ≡ 3 ⌝ }
+    ensures { λ _. ⌜ length (now (aside .exit)) ≡ 4 ⌝ }
 {
     let body = body_of(scope, standing);
     let inner = inner_of(count, scope, product);
@@ -574,7 +582,7 @@ fn head_loop(
             }
         }
     }
-    paid(sum, scope, before, aside, start, at)
+    paid(sum, i, scope, before, aside, start, at)
 }
 
 // Body, condition and overrun of a tail loop, and its end.
@@ -589,17 +597,17 @@ fn tail_loop(
     left: u64,
     marks: &mut [u64],
     held: usize,
-    aside: &mut [u64; 3],
+    aside: &mut [u64; 4],
     standing: u64,
     product: u64,
 ) -> Parsed
-    requires { ⌜ Lent (now s) (now bounds) (now marks) (now aside) own product held (c .at) ⌝ }
+    requires { ⌜ Lent (now s) (now bounds) (now marks) (now aside) own product held start ⌝ }
     requires { ⌜ Within (now s) start (c .at) ⌝ }
     requires { ⌜ (count ≤ 1000000) × (scope ≤ 1) ⌝ }
     ensures { λ r. ⌜ Tells (length (now (s .entry))) (start) (asideIs (now (aside .entry))) (listFrom (constructOf left (now (s .entry)) (now (bounds .entry)) own) (ownerOf 6 count scope start standing product) 3 c) r (asideIs (now (aside .exit))) ⌝ }
     ensures { λ _. ⌜ take held (now (marks .exit)) ≡ take held (now (marks .entry)) ⌝ }
     ensures { λ _. ⌜ length (now (marks .exit)) ≡ length (now (marks .entry)) ⌝ }
-    ensures { λ _. ⌜ length (now (aside .exit)) ≡ 3 ⌝ }
+    ensures { λ _. ⌜ length (now (aside .exit)) ≡ 4 ⌝ }
 {
     let body = body_of(scope, standing);
     let inner = inner_of(count, scope, product);
@@ -630,7 +638,7 @@ fn tail_loop(
             }
         }
     }
-    paid(sum, scope, before, aside, start, at)
+    paid(sum, i, scope, before, aside, start, at)
 }
 
 // The timeout statement of a timed loop, and its end.
@@ -644,27 +652,27 @@ fn timed_loop(
     left: u64,
     marks: &mut [u64],
     held: usize,
-    aside: &mut [u64; 3],
+    aside: &mut [u64; 4],
     standing: u64,
     product: u64,
 ) -> Parsed
-    requires { ⌜ Lent (now s) (now bounds) (now marks) (now aside) own product held (c .at) ⌝ }
+    requires { ⌜ Lent (now s) (now bounds) (now marks) (now aside) own product held start ⌝ }
     requires { ⌜ Within (now s) start (c .at) ⌝ }
     requires { ⌜ time ≤ 4294967295 ⌝ }
     ensures { λ r. ⌜ Tells (length (now (s .entry))) (start) (asideIs (now (aside .entry))) (listFrom (constructOf left (now (s .entry)) (now (bounds .entry)) own) (ownerOf 7 time 0 start standing product) 1 c) r (asideIs (now (aside .exit))) ⌝ }
     ensures { λ _. ⌜ take held (now (marks .exit)) ≡ take held (now (marks .entry)) ⌝ }
     ensures { λ _. ⌜ length (now (marks .exit)) ≡ length (now (marks .entry)) ⌝ }
-    ensures { λ _. ⌜ length (now (aside .exit)) ≡ 3 ⌝ }
+    ensures { λ _. ⌜ length (now (aside .exit)) ≡ 4 ⌝ }
 {
     match at_once(s, c, bounds, own, left, aside, 0) {
         Quick::Value(v, next) => {
-            return ended(v + time, aside, start, next);
+            return ended(v + time, 1, aside, start, next);
         }
         Quick::Other => {}
     }
     match construct(s, c, bounds, own, left, marks, held, aside, 0, 0) {
         Parsed::Refused(number, place) => Parsed::Refused(number, place),
-        Parsed::Value(v, next) => ended(v + time, aside, start, next),
+        Parsed::Value(v, next) => ended(v + time, 1, aside, start, next),
     }
 }
 
@@ -675,7 +683,7 @@ fn routine(
     bounds: &[u64; 64],
     own: u64,
     marks: &mut [u64],
-    aside: &mut [u64; 3],
+    aside: &mut [u64; 4],
 ) -> Parsed
     requires { ⌜ Lent (now s) (now bounds) (now marks) (now aside) own 0 0 (c .at) ⌝ }
     ensures { λ r. ⌜ Tells (length (now (s .entry))) (c .at) (asideIs (now (aside .entry))) (routineOf (now (s .entry)) (now (bounds .entry)) own c) r (asideIs (now (aside .exit))) ⌝ }
@@ -688,7 +696,7 @@ fn routine(
             let body = r.next;
             match construct(s, body, bounds, own, 24, marks, 0, aside, 0, 0) {
                 Parsed::Refused(fault, place) => Parsed::Refused(fault, place),
-                Parsed::Value(v, next) => ended(v + r.first, aside, start, next),
+                Parsed::Value(v, next) => ended(v + r.first, 1, aside, start, next),
             }
         }
     }
@@ -701,6 +709,7 @@ impl Bounds {
         Bounds {
             values: [0u64; 64],
             count: 0,
+            constructs: 0,
         }
     }
 }
@@ -765,7 +774,7 @@ fn verdict(long: usize, progress: Progress) -> Reply
 
 // The n routines of a sheet, one after another, each with the bounds of those before.
 fn routines(s: &[u8], c: Cursor, n: u64, number: u64, marks: &mut [u64]) -> Report
-    requires { ⌜ (n ≤ 64) × (length (now s) ≤ 8 * length (now marks)) ⌝ }
+    requires { ⌜ (n ≤ 64) × (length (now s) ≤ 8 * length (now marks)) × (length (now s) ≤ 60000) ⌝ }
     ensures { λ r. ⌜ r ≡ routinesOf n (now (s .entry)) number noBounds (progressFrom (length (now (s .entry))) c) ⌝ }
 {
     let mut b = Bounds::none();
@@ -773,7 +782,7 @@ fn routines(s: &[u8], c: Cursor, n: u64, number: u64, marks: &mut [u64]) -> Repo
     while b.count < n {
         let own = b.count + 1;
         let at = progress.at;
-        let mut aside = nothing_told();
+        let mut aside = nothing_told(b.constructs);
         match routine(s, at, &b.values, own, marks, &mut aside) {
             Parsed::Refused(k, p) => {
                 return Report {
@@ -786,6 +795,7 @@ fn routines(s: &[u8], c: Cursor, n: u64, number: u64, marks: &mut [u64]) -> Repo
                 let i = b.count as usize;
                 b.values[i] = v;
                 b.count = own;
+                b.constructs = aside[CONSTRUCTS];
                 continue;
             }
         }
@@ -798,7 +808,7 @@ fn routines(s: &[u8], c: Cursor, n: u64, number: u64, marks: &mut [u64]) -> Repo
 
 // The sheet record, then its routines.
 fn sheet(s: &[u8], number: u64, marks: &mut [u64]) -> Report
-    requires { ⌜ length (now s) ≤ 8 * length (now marks) ⌝ }
+    requires { ⌜ (length (now s) ≤ 8 * length (now marks)) × (length (now s) ≤ 60000) ⌝ }
     ensures { λ r. ⌜ r ≡ sheetOf (now (s .entry)) number ⌝ }
 {
     let c = Cursor { at: 0 };

@@ -7,7 +7,7 @@ use Rattle.records.specs.declared.Found.the-variants as found
 use Rattle.records.proofs.Founds.{leaf-primitive, leaf-call, leaf-marker}
 use Rattle.reader.specs.Tallies.{at-once, not-read}
 use Rattle.reader.specs.Reader.{foundAt}
-use Rattle.reader.proofs.Constructs.{primitive-alone, call-alone, marker-alone, set-mark, set-three, call-range, marker-range}
+use Rattle.reader.proofs.Constructs.{primitive-alone, call-alone, marker-alone, set-mark, set-four, call-range, marker-range}
 use Rattle.reader.proofs.at_once.Statement.{statement}
 use Rattle.reader.proofs.at_once.Tie as tie
 use Rattle.reader.proofs.at_once.Reads as reads
@@ -77,22 +77,22 @@ returns c =
     let read = c .before .before .before in
     let start = read .before .before in
     let is = leaf-primitive _ (sym (read .leaf .ensures) ∙ c .before .cost .given .1) in
-    (at-once refl (λ product. primitive-alone _ _ _ _ _ product _ (start .pre .added) is), start .pre .three)
+    (at-once refl (λ product. primitive-alone _ _ _ _ _ product _ (start .pre .added) is), start .pre .four)
 
 returns-2 : tie.Need-returns-2
 returns-2 c =
     let p = c .before .before .before .before .before .before .pre in
-    (at-once refl (λ product. call-alone _ _ _ _ _ product _ (p .added) (p .small) (calls (c .before))), p .three)
+    (at-once refl (λ product. call-alone _ _ _ _ _ product _ (p .added) (p .small) (calls (c .before))), p .four)
 
 returns-3 : tie.Need-returns-3
 returns-3 c =
     let start = c .before .before .before .before .before in
     let xs = start .args .aside .now in
     let p = start .pre in
-    (at-once refl (λ product. marker-alone _ _ _ _ _ product _ (p .added) (marks c) (set-mark xs _ (p .three))), set-three xs _ (p .three) 2)
+    (at-once refl (λ product. marker-alone _ _ _ _ _ product _ (p .added) (marks c) (set-mark xs _ (p .four))), set-four xs _ (p .four) 2)
 
 returns-4 : tie.Need-returns-4
-returns-4 c = (not-read refl refl, c .before .before .before .before .pre .three)
+returns-4 c = (not-read refl refl, c .before .before .before .before .pre .four)
 
 pub at-once-spec : {M : Type 1} → statement M
 at-once-spec =

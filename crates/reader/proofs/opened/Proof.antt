@@ -1,7 +1,7 @@
 -- `opened` writes what is added.
 use mathlib.Core.Path.{refl}
 use borrow.Author.Needs.{needs}
-use Rattle.reader.proofs.Constructs.{written, set-three}
+use Rattle.reader.proofs.Constructs.{written, set-four}
 use Rattle.reader.proofs.opened.Statement.{statement}
 use Rattle.reader.proofs.opened.Tie as tie
 
@@ -18,7 +18,7 @@ returns : tie.Need-returns
 returns c =
     let start = c .before .before in
     let xs = start .args .aside .now in
-    (refl, (written xs (start .pre) (c .choose .ensures), set-three xs (c .choose .result) (start .pre) 1))
+    (refl, (written xs (start .pre) (c .choose .ensures), set-four xs (c .choose .result) (start .pre) 1))
 
 pub opened-spec : {M : Type 1} → statement M
 opened-spec = tie.close (tie.spec element-copy-out-before choose-requires element-write-aside returns)

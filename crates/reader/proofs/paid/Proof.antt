@@ -3,7 +3,7 @@ use mathlib.Core.Path.{ap}
 use Prim.Native.Nat.{_+_}
 use native.Mathlib.Omega.{arith}
 use borrow.Author.Needs.{needs}
-use Rattle.reader.proofs.Constructs.{written, set-three, paid-small, same-end}
+use Rattle.reader.proofs.Constructs.{written, added-countable, set-four, paid-small, same-end}
 use Rattle.reader.proofs.paid.Statement.{statement}
 use Rattle.reader.proofs.paid.Tie as tie
 
@@ -27,7 +27,9 @@ add-ended c =
 ended-requires : tie.Need-ended-requires
 ended-requires c κs =
     let start = c .before .before .before .before in
-    set-three (start .args .aside .now) (c .before .before .choose .result) (start .pre .2) 1
+    let xs = start .args .aside .now in
+    let x = c .before .before .choose .result in
+    (set-four xs x (start .pre .2) 1, added-countable xs x (start .args .valued) (start .pre .2) (start .pre .3))
 
 returns : tie.Need-returns
 returns c =
@@ -35,7 +37,7 @@ returns c =
     let start = second .before .before .before in
     let xs = start .args .aside .now in
     let told = written xs (start .pre .2) (second .before .choose .ensures) in
-    let (r, b) = same-end (start .args .start) (ap (λ x. start .args .sum + x) (second .choose2 .ensures)) told (c .ended .ensures .0) (c .ended .ensures .1 .0) in
+    let (r, b) = same-end (start .args .valued) (start .args .start) (ap (λ x. start .args .sum + x) (second .choose2 .ensures)) told (c .ended .ensures .0) (c .ended .ensures .1 .0) in
     (r, (b, c .ended .ensures .1 .1))
 
 pub paid-spec : {M : Type 1} → statement M

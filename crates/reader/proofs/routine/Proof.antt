@@ -8,7 +8,7 @@ use Rattle.records.proofs.Good.{RoutineFine, routine-fine}
 use Rattle.reader.specs.Tallies.{asideIs, a-refusal}
 use Rattle.reader.specs.Reader.{recordOf, constructOf, Within}
 use Rattle.reader.proofs.Tells.{told-as, told-ended, valued-small, tells-value, tells-refusal}
-use Rattle.reader.proofs.Timed.{timed-refused, timed-ends}
+use Rattle.reader.proofs.Timed.{timed-refused, timed-countable, timed-ends}
 use Rattle.reader.proofs.Under.{routine-refused, routine-good}
 use Rattle.records.proofs.Cursor.routine.Reads as cursor-routine
 use Rattle.reader.proofs.construct.Reads as construct
@@ -55,7 +55,7 @@ enum-known-r c = search needs
 construct-requires : tie.Need-construct-requires
 construct-requires c κs =
     let p = start (c .before .before .before) .pre in
-    record { small = p .small; few = p .few; passes = omega arith; room = p .room; kept = omega arith; three = p .three; added = p .added }
+    record { small = p .small; few = p .few; passes = omega arith; room = p .room; kept = omega arith; four = p .four; added = p .added; valued = omega (arith, p .valued, fine (c .before .before .before) .past); short = p .short }
 
 enum-known-fault : tie.Need-enum-known-fault
 enum-known-fault c = search needs
@@ -70,7 +70,17 @@ add-ended c =
     omega (arith, valued-small (tells-value (read .construct .ensures .0) (told .before .v .given .1)), fine (good read) .first)
 
 ended-requires : tie.Need-ended-requires
-ended-requires c κs = c .before .before .before .before .before .before .before .construct .ensures .1 .1 .1
+ended-requires c κs =
+    let told = c .before .before in
+    let read = told .before .before .before .before .before in
+    let s = start (good read) in
+    let a = s .args in
+    let p = s .pre in
+    let r = good read .before .r .given .0 .0 in
+    let few = timed-countable (constructOf 24 (a .s .now) (a .bounds .now) (a .own)) (r .first) (a .c .at) 0 0 (a .s .now) (a .marks .now) 0 (r .next)
+    (asideIs (a .aside .now)) (omega arith) (within (good read)) (p .added) (p .valued) (p .room) (read .construct .last .1 .1 .1 .1 .1 .0)
+    (tells-value (read .construct .ensures .0) (told .before .v .given .1)) (read .construct .ensures .1 .0) (read .construct .ensures .1 .1 .0) (p .short) in
+    (read .construct .ensures .1 .1 .1, few)
 
 returns : tie.Need-returns
 returns c =
@@ -90,7 +100,7 @@ returns-2 c =
     let p = s .pre in
     let r = good read .before .r .given .0 .0 in
     let refused = timed-refused (constructOf 24 (a .s .now) (a .bounds .now) (a .own)) (r .first) (a .c .at) 0 0 (a .s .now) (a .marks .now) 0 (r .next)
-    (asideIs (a .aside .now)) (omega arith) (within (good read)) (p .added) (p .room) (tells-refusal (read .construct .ensures .0) (c .before .fault .given .1)) in
+    (asideIs (a .aside .now)) (omega arith) (within (good read)) (p .added) (p .valued) (p .room) (tells-refusal (read .construct .ensures .0) (c .before .fault .given .1)) in
     (a-refusal (routine-good (a .s .now) (a .bounds .now) (a .own) (a .c) (is-good (good read)) ∙ refused) refl, read .construct .ensures .1 .1 .0)
 
 same-length-2 : tie.Need-same-length-2
@@ -105,7 +115,7 @@ returns-3 c =
     let p = s .pre in
     let r = good read .before .r .given .0 .0 in
     let w = timed-ends (constructOf 24 (a .s .now) (a .bounds .now) (a .own)) (r .first) (a .c .at) 0 0 (a .s .now) (a .marks .now) 0 (r .next) (asideIs (a .aside .now))
-    (omega arith) (within (good read)) (p .added) (p .room) (read .construct .last .1 .1 .1 .1 .1 .0)
+    (omega arith) (within (good read)) (p .added) (p .valued) (p .room) (read .construct .last .1 .1 .1 .1 .1 .0)
     (tells-value (read .construct .ensures .0) (told .before .v .given .1)) (read .construct .ensures .1 .0) (read .construct .ensures .1 .1 .0) in (
       told-ended (c .ended .ensures .0) (c .ended .ensures .1 .0) (told-as (routine-good (a .s .now) (a .bounds .now) (a .own) (a .c) (is-good (good read))) w),
       read .construct .ensures .1 .1 .0,

@@ -3,7 +3,7 @@ use Prim.Native.Nat.{_-_, _<_}
 use mathlib.Core.Path.{sym, _∙_}
 use native.Mathlib.Omega.{arith}
 use borrow.Author.Needs.{needs}
-use Rattle.reader.proofs.Tells.{told-from, aside-small, tells-value, tells-refusal}
+use Rattle.reader.proofs.Tells.{told-from, aside-small, aside-valued, tells-value, tells-refusal}
 use Rattle.reader.proofs.Under.{Under, under-none, routines-end, turn-refused, turn-more}
 use Rattle.reader.proofs.routines.Statement.{statement}
 use Rattle.reader.proofs.routines.Tie as tie
@@ -53,8 +53,10 @@ routine-requires c κs =
       passes = omega arith;
       room = omega (arith, p .1, inv .long);
       kept = omega arith;
-      three = told .nothing-told .ensures .1;
+      four = told .nothing-told .ensures .1;
       added = aside-small (told .nothing-told .ensures .0) (omega arith);
+      valued = aside-valued (told .nothing-told .ensures .0) (inv .valued);
+      short = p .2;
     }
 
 enum-known-k : tie.Need-enum-known-k Inv-loop μ-loop
@@ -87,6 +89,9 @@ mul-b c = omega (arith, few (c .before .before .before .before .before .before))
 
 element-write-b : tie.Need-element-write-b Inv-loop μ-loop
 element-write-b c = omega (arith, few (c .before .before .before .before .before .before))
+
+array-read-b : tie.Need-array-read-b Inv-loop μ-loop
+array-read-b c = search needs
 
 loop-less : tie.Need-loop-less Inv-loop μ-loop
 loop-less c = omega (arith, test (c .before .before .before .before .before .before) .loop-test .taken)
@@ -132,6 +137,7 @@ routines-spec =
     with-requires
     mul-b
     element-write-b
+    array-read-b
     loop-less
     loop-again
     verdict-requires

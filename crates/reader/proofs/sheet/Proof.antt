@@ -25,7 +25,7 @@ routines-requires : tie.Need-routines-requires
 routines-requires c κs =
     let start = c .before .before .before .before .before .before .before .before in
     let e = sym (c .before .before .before .before .before .sheet .ensures) ∙ c .before .before .before .r .given .1 in
-    (sheet-fine (start .args .s .now) e .few, start .pre)
+    (sheet-fine (start .args .s .now) e .few, start .pre .0, start .pre .1)
 
 returns : tie.Need-returns
 returns c =

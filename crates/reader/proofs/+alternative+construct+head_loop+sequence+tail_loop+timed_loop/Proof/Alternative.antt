@@ -8,11 +8,11 @@ use Rattle.records.specs.declared.Cursor.{Cursor}
 use Rattle.reader.specs.declared.Parsed.the-variants as parsed
 use Rattle.reader.specs.Tallies.{asideIs, Valued, a-refusal}
 use Rattle.reader.specs.Reader.{Owner, ownerOf, ChildReader, childOf, constructOf}
-use Rattle.reader.proofs.Tells.{told-as, told-from, told-ended, aside-small, valued-small, tells-value, tells-refusal, quickly-value, quickly-other}
+use Rattle.reader.proofs.Tells.{told-as, told-from, told-ended, aside-small, aside-valued, valued-small, tells-value, tells-refusal, quickly-value, quickly-other}
 use Rattle.reader.proofs.Children.{alternative-child}
-use Rattle.reader.proofs.Constructs.{set-three}
-use Rattle.reader.proofs.Going.{added-small, held-room, still-below, still-long, child-refused}
-use Rattle.reader.proofs.Branches.{lentTo, child-lent, end-told, Branching, branching-first, branching-next, branch-room, branch-mark, branching-small, branching-fits, added-still, branching-ends}
+use Rattle.reader.proofs.Constructs.{set-four}
+use Rattle.reader.proofs.Going.{added-small, valued-room, countable, held-room, still-below, still-long, child-refused}
+use Rattle.reader.proofs.Branches.{lentTo, child-lent, end-countable, end-told, Branching, branching-first, branching-next, branch-room, branch-mark, branching-small, branching-fits, added-still, branching-ends}
 use Rattle.reader.proofs.Depths.{alternative-at, construct-below}
 use Rattle.reader.proofs.construct.Reads as construct
 use Rattle.reader.proofs.alternative.Reads as alternative
@@ -28,7 +28,7 @@ use Rattle.reader.proofs.+alternative+construct+head_loop+sequence+tail
 abbrev pub Inv-loop : lts.InvT-loop
 Inv-loop s start n bounds own left marks₀ base aside₀ standing product usual last held₀ mark₀ sum₀ top₀ at₀ i₀ marks aside held mark sum top at i =
     Branching (constructOf left s bounds own) n start standing product s marks₀ base at₀ (asideIs aside₀) marks sum top held mark at i (asideIs aside)
-    × (length aside ≡ 3)
+    × (length aside ≡ 4)
 
 abbrev pub μ-loop : lts.MeasureT-loop
 μ-loop s start n bounds own left marks₀ base aside₀ standing product usual last held₀ mark₀ sum₀ top₀ at₀ i₀ marks aside held mark sum top at i = n + 1 - i
@@ -147,8 +147,8 @@ module _ (t : ℕ) where
       let a = s .args in
       let p = s .pre .1 in (
         branching-first (read s) (a .n) (a .start) (a .standing) (a .product) (a .s .now) (a .marks .now) (a .base) (a .c) (asideIs (a .aside .now)) (p .0 .kept) (p .1 .0)
-            (p .0 .added),
-        p .0 .three,
+            (p .0 .added) (p .0 .valued),
+        p .0 .four,
       )
 
   pub sub-choose : lts.Need-sub-choose claims (alternative-at t) alternative.Post Inv-loop μ-loop
@@ -174,11 +174,11 @@ module _ (t : ℕ) where
       let chosen = c .before in
       let p = start chosen .pre .1 .0 in
       let l = testing chosen .before .loop in
-      let (inv, three) = l .inv in
+      let (inv, four) = l .inv in
       record {
         small = p .small;
         few = p .few;
-        three = set-three (l .aside) (chosen .choose5 .result) three 2;
+        four = set-four (l .aside) (chosen .choose5 .result) four 2;
         added = aside-small (lent-aside chosen) (added-small (inv .going));
       }
 
@@ -252,8 +252,10 @@ module _ (t : ℕ) where
           passes = p .passes;
           room = omega (arith, p .room, g .long);
           kept = g .room;
-          three = c .before .before .before .before .at-once .ensures .1;
+          four = c .before .before .before .before .at-once .ensures .1;
           added = aside-small (still-aside (c .before .before)) (added-small g);
+          valued = aside-valued (still-aside (c .before .before)) (valued-room g);
+          short = p .short;
         },
       )
 
@@ -377,7 +379,10 @@ module _ (t : ℕ) where
   pub ended-requires : lts.Need-ended-requires claims (alternative-at t) alternative.Post Inv-loop μ-loop
   ended-requires c κs =
       let l = c .before .before .before .before .before .before .before .loop in
-      set-three (set (l .aside) 2 (l .mark)) (c .before .at-most .result) (set-three (l .aside) (l .mark) (l .inv .1) 2) 1
+      let s = c .before .before .before .before .before .before .before .before .before .before .before .before .before in (
+        set-four (set (l .aside) 2 (l .mark)) (c .before .at-most .result) (set-four (l .aside) (l .mark) (l .inv .1) 2) 1,
+        end-countable (l .aside) (l .mark) (c .before .at-most .result) (l .i) (l .inv .1) (countable (l .inv .0 .going) (s .pre .1 .0 .short)),
+      )
 
   pub same-length-2 : lts.Need-same-length-2 claims (alternative-at t) alternative.Post Inv-loop μ-loop
   same-length-2 c = c .before .before .before .before .before .before .before .before .loop .inv .0 .going .long

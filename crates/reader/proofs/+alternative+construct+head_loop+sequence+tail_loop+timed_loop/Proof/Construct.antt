@@ -10,8 +10,8 @@ use Rattle.records.proofs.Founds.{Past}
 use Rattle.reader.specs.Tallies.{asideIs, a-value, a-refusal}
 use Rattle.reader.specs.Reader.{foundAt, ownedOf}
 use Rattle.reader.proofs.Tells.{tells-as}
-use Rattle.reader.proofs.Constructs.{owner, refuses, primitive-alone, call-alone, marker-alone, set-mark, set-three, call-range, marker-range}
-use Rattle.reader.proofs.Constructs.{sequence-range, alternative-range, head-range, tail-range, timed-range, lent-list, within-list}
+use Rattle.reader.proofs.Constructs.{owner, refuses, primitive-alone, call-alone, marker-alone, set-mark, set-four, call-range, marker-range}
+use Rattle.reader.proofs.Constructs.{sequence-range, alternative-range, head-range, tail-range, timed-range, within-list}
 use Rattle.reader.proofs.Depths.{construct-at, sequence-below, alternative-below, head-loop-below, tail-loop-below, timed-loop-below}
 use Rattle.records.proofs.Cursor.construct.Reads as cursor-construct
 use Rattle.reader.proofs.construct.Reads as construct
@@ -133,7 +133,7 @@ module _ (t : ℕ) where
       let told = c .before .before in
       let s = start (told .before .before .before) in
       let r = range-sequence told in
-      (omega (arith, s .pre .0, r .0 .deep), (lent-list (s .pre .1) (r .0), (within-list (r .0), r .1)))
+      (omega (arith, s .pre .0, r .0 .deep), (s .pre .1, (within-list (r .0), r .1)))
 
   pub enum-known-n-2 : lts.Need-enum-known-n-2 claims (construct-at t) construct.Post
   enum-known-n-2 c = search needs
@@ -146,7 +146,7 @@ module _ (t : ℕ) where
       let told = c .before .before in
       let s = start (told .before .before .before) in
       let r = range-alternative told in
-      (omega (arith, s .pre .0, r .0 .deep), (lent-list (s .pre .1) (r .0), (within-list (r .0), (r .1, r .2))))
+      (omega (arith, s .pre .0, r .0 .deep), (s .pre .1, (within-list (r .0), (r .1, r .2))))
 
   pub enum-known-count : lts.Need-enum-known-count claims (construct-at t) construct.Post
   enum-known-count c = search needs
@@ -159,7 +159,7 @@ module _ (t : ℕ) where
       let told = c .before .before in
       let s = start (told .before .before .before) in
       let r = range-head-loop told in
-      (omega (arith, s .pre .0, r .0 .deep), (lent-list (s .pre .1) (r .0), (within-list (r .0), (r .1, r .2))))
+      (omega (arith, s .pre .0, r .0 .deep), (s .pre .1, (within-list (r .0), (r .1, r .2))))
 
   pub enum-known-count-2 : lts.Need-enum-known-count-2 claims (construct-at t) construct.Post
   enum-known-count-2 c = search needs
@@ -172,7 +172,7 @@ module _ (t : ℕ) where
       let told = c .before .before in
       let s = start (told .before .before .before) in
       let r = range-tail-loop told in
-      (omega (arith, s .pre .0, r .0 .deep), (lent-list (s .pre .1) (r .0), (within-list (r .0), (r .1, r .2))))
+      (omega (arith, s .pre .0, r .0 .deep), (s .pre .1, (within-list (r .0), (r .1, r .2))))
 
   pub enum-known-time : lts.Need-enum-known-time claims (construct-at t) construct.Post
   enum-known-time c = search needs
@@ -185,7 +185,7 @@ module _ (t : ℕ) where
       let told = c .before .before in
       let s = start (told .before .before .before) in
       let r = range-timed-loop told in
-      (omega (arith, s .pre .0, r .0 .deep), (lent-list (s .pre .1) (r .0), (within-list (r .0), r .1)))
+      (omega (arith, s .pre .0, r .0 .deep), (s .pre .1, (within-list (r .0), r .1)))
 
   pub enum-known-number-2 : lts.Need-enum-known-number-2 claims (construct-at t) construct.Post
   enum-known-number-2 c = search needs
@@ -216,7 +216,7 @@ module _ (t : ℕ) where
       let a = s .args in (
         a-refusal (refuses (a .left) (a .s .now) (a .bounds .now) (a .own) (a .standing) (a .product) (a .c) (finds (c .before .before .before) (c .before .number .given .1)))
             refl,
-        (refl, (refl, s .pre .1 .three)),
+        (refl, (refl, s .pre .1 .four)),
       )
 
   pub returns-2 : lts.Need-returns-2 claims (construct-at t) construct.Post
@@ -226,7 +226,7 @@ module _ (t : ℕ) where
       let p = s .pre .1 in (
         a-value (primitive-alone (a .left) (a .s .now) (a .bounds .now) (a .own) (a .standing) (a .product) (a .c) (p .added)
             (finds (c .before .before .before) (c .before .cost .given .1))),
-        (refl, (refl, p .three)),
+        (refl, (refl, p .four)),
       )
 
   pub same-length : lts.Need-same-length claims (construct-at t) construct.Post
@@ -296,7 +296,7 @@ module _ (t : ℕ) where
       let a = s .args in
       let p = s .pre .1 in (
         a-value (call-alone (a .left) (a .s .now) (a .bounds .now) (a .own) (a .standing) (a .product) (a .c) (p .added) (p .small) (is-call told)),
-        (refl, (refl, p .three)),
+        (refl, (refl, p .four)),
       )
 
   pub returns-9 : lts.Need-returns-9 claims (construct-at t) construct.Post
@@ -305,6 +305,6 @@ module _ (t : ℕ) where
       let a = s .args in
       let p = s .pre .1 in
       let xs = a .aside .now in (
-        a-value (marker-alone (a .left) (a .s .now) (a .bounds .now) (a .own) (a .standing) (a .product) (a .c) (p .added) (is-marker c) (set-mark xs _ (p .three))),
-        (refl, (refl, set-three xs _ (p .three) 2)),
+        a-value (marker-alone (a .left) (a .s .now) (a .bounds .now) (a .own) (a .standing) (a .product) (a .c) (p .added) (is-marker c) (set-mark xs _ (p .four))),
+        (refl, (refl, set-four xs _ (p .four) 2)),
       )

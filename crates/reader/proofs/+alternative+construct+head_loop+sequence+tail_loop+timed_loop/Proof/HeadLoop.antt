@@ -8,12 +8,12 @@ use borrow.Author.Needs.{needs}
 use Rattle.meaning.specs.Format.{pick}
 use Rattle.records.specs.declared.Cursor.{Cursor}
 use Rattle.reader.specs.declared.Parsed.the-variants as parsed
-use Rattle.reader.specs.Tallies.{Aside, asideIs, Valued, Counts, a-refusal}
+use Rattle.reader.specs.Tallies.{Aside, asideIs, addedAs, Valued, Counts, a-refusal}
 use Rattle.reader.specs.Reader.{Owner, ownerOf, ChildReader, childOf, constructOf}
-use Rattle.reader.proofs.Tells.{told-as, told-from, told-ended, aside-small, valued-small, tells-value, tells-refusal, quickly-value, quickly-other}
+use Rattle.reader.proofs.Tells.{told-as, told-from, told-ended, aside-small, aside-valued, valued-small, tells-value, tells-refusal, quickly-value, quickly-other}
 use Rattle.reader.proofs.Children.{head-child}
 use Rattle.reader.proofs.Constructs.{opened-lends, opened-small, opened-before}
-use Rattle.reader.proofs.Going.{added-small, still-below, still-long, child-refused}
+use Rattle.reader.proofs.Going.{added-small, valued-room, countable, still-below, still-long, child-refused}
 use Rattle.reader.proofs.Summing.{paid-is, Summing, summing-from, summing-fits, summing-small, summing-more, summing-ends}
 use Rattle.reader.proofs.Depths.{head-loop-at, construct-below}
 use Rattle.reader.proofs.construct.Reads as construct
@@ -30,8 +30,8 @@ use Rattle.reader.proofs.+alternative+construct+head_loop+sequence+tail
 abbrev pub Inv-loop : lts.InvT-loop
 Inv-loop s start count scope bounds own left marks₀ held aside₀ standing product body inner before sum₀ at₀ i₀ marks aside sum at i =
     Summing (constructOf left s bounds own) (ownerOf 5 count scope start standing product) s marks₀ 4 held at₀
-    (record { over = asideIs aside₀ .over; added = before; mark = asideIs aside₀ .mark }) marks sum at i (asideIs aside)
-    × (length aside ≡ 3)
+    (addedAs (asideIs aside₀) before) marks sum at i (asideIs aside)
+    × (length aside ≡ 4)
 
 abbrev pub μ-loop : lts.MeasureT-loop
 μ-loop s start count scope bounds own left marks₀ held aside₀ standing product body inner before sum₀ at₀ i₀ marks aside sum at i = 4 - i
@@ -131,7 +131,7 @@ module _ (t : ℕ) where
   inner-of-requires c κs = let p = c .before .before .before .pre .1 in (p .1 .1 .0, p .0 .passes)
 
   pub opened-requires : lts.Need-opened-requires claims (head-loop-at t) head-loop.Post Inv-loop μ-loop
-  opened-requires c κs = c .before .before .before .before .before .pre .1 .0 .three
+  opened-requires c κs = c .before .before .before .before .before .pre .1 .0 .four
 
   pub loop-holds : lts.Need-loop-holds claims (head-loop-at t) head-loop.Post Inv-loop μ-loop
   loop-holds c =
@@ -140,8 +140,9 @@ module _ (t : ℕ) where
       let p = s .pre .1 in
       let xs = c .opened .last .1 .0 in (
         summing-from (read s) (owner s) (a .s .now) (a .marks .now) 4 (a .held) (a .c)
-            (record { over = asideIs xs .over; added = c .opened .result; mark = asideIs xs .mark })
-            (opened-lends (a .scope) (c .opened .ensures .0) (c .opened .ensures .1 .0)) (p .0 .kept) (p .1 .0) (opened-small (c .opened .ensures .0) (p .0 .added)),
+            (addedAs (asideIs xs) (c .opened .result))
+            (opened-lends (a .scope) (c .opened .ensures .0) (c .opened .ensures .1 .0)) (p .0 .kept) (p .1 .0) (opened-small (c .opened .ensures .0) (p .0 .added))
+            (aside-valued (c .opened .ensures .1 .0) (p .0 .valued)),
         c .opened .ensures .1 .1,
       )
 
@@ -151,8 +152,8 @@ module _ (t : ℕ) where
   pub at-once-requires : lts.Need-at-once-requires claims (head-loop-at t) head-loop.Post Inv-loop μ-loop
   at-once-requires c κs =
       let p = start (entered (c .before)) .pre .1 .0 in
-      let (inv, three) = c .before .before .before .loop .inv in
-      record { small = p .small; few = p .few; three = three; added = added-small (inv .going) }
+      let (inv, four) = c .before .before .before .loop .inv in
+      record { small = p .small; few = p .few; four = four; added = added-small (inv .going) }
 
   pub enum-known-v : lts.Need-enum-known-v claims (head-loop-at t) head-loop.Post Inv-loop μ-loop
   enum-known-v c = search needs
@@ -197,8 +198,10 @@ module _ (t : ℕ) where
           passes = entered chosen .before .before .inner-of .ensures .1;
           room = omega (arith, p .room, g .long);
           kept = g .room;
-          three = c .before .before .before .before .at-once .ensures .1;
+          four = c .before .before .before .before .at-once .ensures .1;
           added = aside-small (still-aside (c .before .before)) (added-small g);
+          valued = aside-valued (still-aside (c .before .before)) (valued-room g);
+          short = p .short;
         },
       )
 
@@ -253,7 +256,12 @@ module _ (t : ℕ) where
       )
 
   pub paid-requires : lts.Need-paid-requires claims (head-loop-at t) head-loop.Post Inv-loop μ-loop
-  paid-requires c κs = let l = c .before .before .loop in (summing-small (l .inv .0) (omega arith), added-small (l .inv .0 .going), l .inv .1)
+  paid-requires c κs = let l = c .before .before .loop in (
+    summing-small (l .inv .0) (omega arith),
+    added-small (l .inv .0 .going),
+    l .inv .1,
+    countable (l .inv .0 .going) (start (c .before .before .before) .pre .1 .0 .short),
+  )
 
   pub same-length-2 : lts.Need-same-length-2 claims (head-loop-at t) head-loop.Post Inv-loop μ-loop
   same-length-2 c = c .before .before .before .loop .inv .0 .going .long

@@ -8,10 +8,10 @@ use Rattle.records.specs.declared.Cursor.{Cursor}
 use Rattle.reader.specs.declared.Parsed.the-variants as parsed
 use Rattle.reader.specs.Tallies.{counted, asideIs, Valued, a-refusal}
 use Rattle.reader.specs.Reader.{Owner, ownerOf, ChildReader, childOf, constructOf}
-use Rattle.reader.proofs.Tells.{told-as, told-from, told-ended, aside-small, valued-small, tells-value, tells-refusal, quickly-value, quickly-other}
+use Rattle.reader.proofs.Tells.{told-as, told-from, told-ended, aside-small, aside-valued, valued-small, tells-value, tells-refusal, quickly-value, quickly-other}
 use Rattle.reader.proofs.Children.{sequence-child}
 use Rattle.reader.proofs.Laws.{no-loop}
-use Rattle.reader.proofs.Going.{added-small, still-below, still-long, child-refused}
+use Rattle.reader.proofs.Going.{added-small, valued-room, countable, still-below, still-long, child-refused}
 use Rattle.reader.proofs.Summing.{Summing, summing-first, summing-fits, summing-more, summing-ends}
 use Rattle.reader.proofs.Depths.{sequence-at, construct-below}
 use Rattle.reader.proofs.construct.Reads as construct
@@ -26,7 +26,7 @@ use Rattle.reader.proofs.+alternative+construct+head_loop+sequence+tail
 abbrev pub Inv-loop : lts.InvT-loop
 Inv-loop s start n bounds own left marks₀ held aside₀ standing product lead rest sum₀ at₀ i₀ marks aside sum at i =
     Summing (constructOf left s bounds own) (ownerOf 3 n 0 start standing product) s marks₀ n held at₀ (asideIs aside₀) marks sum at i (asideIs aside)
-    × (length aside ≡ 3)
+    × (length aside ≡ 4)
 
 abbrev pub μ-loop : lts.MeasureT-loop
 μ-loop s start n bounds own left marks₀ held aside₀ standing product lead rest sum₀ at₀ i₀ marks aside sum at i = n - i
@@ -121,7 +121,7 @@ module _ (t : ℕ) where
       let s = c .before .before .before .before in
       let a = s .args in
       let p = s .pre .1 in
-      (summing-first (read s) (owner s) (a .s .now) (a .marks .now) (a .n) (a .held) (a .c) (asideIs (a .aside .now)) (p .0 .kept) (p .1 .0) (p .0 .added), p .0 .three)
+      (summing-first (read s) (owner s) (a .s .now) (a .marks .now) (a .n) (a .held) (a .c) (asideIs (a .aside .now)) (p .0 .kept) (p .1 .0) (p .0 .added) (p .0 .valued), p .0 .four)
 
   pub choose-requires : lts.Need-choose-requires claims (sequence-at t) sequence.Post Inv-loop μ-loop
   choose-requires c κs = search needs
@@ -129,8 +129,8 @@ module _ (t : ℕ) where
   pub at-once-requires : lts.Need-at-once-requires claims (sequence-at t) sequence.Post Inv-loop μ-loop
   at-once-requires c κs =
       let p = start (c .before) .pre .1 .0 in
-      let (inv, three) = c .before .before .before .loop .inv in
-      record { small = p .small; few = p .few; three = three; added = added-small (inv .going) }
+      let (inv, four) = c .before .before .before .loop .inv in
+      record { small = p .small; few = p .few; four = four; added = added-small (inv .going) }
 
   pub enum-known-v : lts.Need-enum-known-v claims (sequence-at t) sequence.Post Inv-loop μ-loop
   enum-known-v c = search needs
@@ -172,8 +172,10 @@ module _ (t : ℕ) where
           passes = p .passes;
           room = omega (arith, p .room, g .long);
           kept = g .room;
-          three = c .before .before .before .before .at-once .ensures .1;
+          four = c .before .before .before .before .at-once .ensures .1;
           added = aside-small (still-aside (c .before .before)) (added-small g);
+          valued = aside-valued (still-aside (c .before .before)) (valued-room g);
+          short = p .short;
         },
       )
 
@@ -222,7 +224,9 @@ module _ (t : ℕ) where
       )
 
   pub ended-requires : lts.Need-ended-requires claims (sequence-at t) sequence.Post Inv-loop μ-loop
-  ended-requires c κs = c .before .before .loop .inv .1
+  ended-requires c κs =
+      let l = c .before .before .loop in
+      (l .inv .1, countable (l .inv .0 .going) (c .before .before .before .before .before .before .before .pre .1 .0 .short))
 
   pub same-length-2 : lts.Need-same-length-2 claims (sequence-at t) sequence.Post Inv-loop μ-loop
   same-length-2 c = c .before .before .before .loop .inv .0 .going .long

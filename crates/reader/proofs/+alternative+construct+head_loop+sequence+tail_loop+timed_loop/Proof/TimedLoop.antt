@@ -8,8 +8,8 @@ use Rattle.records.specs.declared.Cursor.{Cursor}
 use Rattle.reader.specs.declared.Parsed.the-variants as parsed
 use Rattle.reader.specs.Tallies.{asideIs, Valued, a-refusal}
 use Rattle.reader.specs.Reader.{ChildReader, constructOf}
-use Rattle.reader.proofs.Tells.{told-from, told-ended, aside-small, valued-small, tells-value, tells-refusal, quickly-value, quickly-other}
-use Rattle.reader.proofs.Timed.{timed-refused, timed-ends}
+use Rattle.reader.proofs.Tells.{told-from, told-ended, aside-small, aside-valued, valued-small, tells-value, tells-refusal, quickly-value, quickly-other}
+use Rattle.reader.proofs.Timed.{timed-refused, timed-countable, timed-ends}
 use Rattle.reader.proofs.Depths.{timed-loop-at, construct-below}
 use Rattle.reader.proofs.construct.Reads as construct
 use Rattle.reader.proofs.timed_loop.Reads as timed-loop
@@ -63,7 +63,7 @@ module _ (t : ℕ) where
   at-once-requires c κs =
       let s = c .before .before .before in
       let p = s .pre .1 in
-      record { small = p .0 .small; few = p .0 .few; three = p .0 .three; added = p .0 .added }
+      record { small = p .0 .small; few = p .0 .few; four = p .0 .four; added = p .0 .added }
 
   pub enum-known-v : lts.Need-enum-known-v claims (timed-loop-at t) timed-loop.Post
   enum-known-v c = search needs
@@ -72,7 +72,14 @@ module _ (t : ℕ) where
   add-ended c = omega (arith, valued-small (once c), starting (c .before .before .before) .pre .1 .1 .1)
 
   pub ended-requires : lts.Need-ended-requires claims (timed-loop-at t) timed-loop.Post
-  ended-requires c κs = c .before .before .before .before .at-once .ensures .1
+  ended-requires c κs =
+      let once' = c .before in
+      let s = starting (once' .before .before .before) in
+      let a = s .args in
+      let p = s .pre .1 in
+      let few = timed-countable (read s) (a .time) (a .start) (a .standing) (a .product) (a .s .now) (a .marks .now) (a .held) (a .c) (asideIs (a .aside .now))
+      (p .0 .kept) (p .1 .0) (p .0 .added) (p .0 .valued) (p .0 .room) (a .marks .now) (once once') refl refl (p .0 .short) in
+      (once' .before .before .before .at-once .ensures .1, few)
 
   pub returns : lts.Need-returns claims (timed-loop-at t) timed-loop.Post
   returns c =
@@ -81,7 +88,7 @@ module _ (t : ℕ) where
       let a = s .args in
       let p = s .pre .1 in
       let w = timed-ends (read s) (a .time) (a .start) (a .standing) (a .product) (a .s .now) (a .marks .now) (a .held) (a .c) (asideIs (a .aside .now)) (p .0 .kept)
-      (p .1 .0) (p .0 .added) (p .0 .room) (a .marks .now) (once once') refl refl in
+      (p .1 .0) (p .0 .added) (p .0 .valued) (p .0 .room) (a .marks .now) (once once') refl refl in
       (told-ended (c .ended .ensures .0) (c .ended .ensures .1 .0) w, (refl, (refl, c .ended .ensures .1 .1)))
 
   pub enum-told : lts.Need-enum-told claims (timed-loop-at t) timed-loop.Post
@@ -97,9 +104,11 @@ module _ (t : ℕ) where
           few = p .few;
           passes = omega arith;
           room = p .room;
-          kept = p .kept;
-          three = c .before .before .before .before .at-once .ensures .1;
+          kept = omega (arith, p .kept, s .pre .1 .1 .0 .past);
+          four = c .before .before .before .before .at-once .ensures .1;
           added = aside-small (still-aside (c .before .before)) (p .added);
+          valued = aside-valued (still-aside (c .before .before)) (omega (arith, p .valued, s .pre .1 .1 .0 .past));
+          short = p .short;
         },
       )
 
@@ -113,7 +122,16 @@ module _ (t : ℕ) where
   add-ended-2 c = let built = c .before .before .before .before .before in omega (arith, valued-small (read-by built (c .before .v2 .given .1)), lending built .pre .1 .1 .1)
 
   pub ended-requires-2 : lts.Need-ended-requires-2 claims (timed-loop-at t) timed-loop.Post
-  ended-requires-2 c κs = c .before .before .before .before .before .before .construct .ensures .1 .1 .1
+  ended-requires-2 c κs =
+      let told = c .before in
+      let built = told .before .before .before .before .before in
+      let s = lending built in
+      let a = s .args in
+      let p = s .pre .1 in
+      let few = timed-countable (read s) (a .time) (a .start) (a .standing) (a .product) (a .s .now) (a .marks .now) (a .held) (a .c) (asideIs (a .aside .now))
+      (p .0 .kept) (p .1 .0) (p .0 .added) (p .0 .valued) (p .0 .room) (built .construct .last .1 .1 .1 .1 .1 .0) (read-by built (told .before .v2 .given .1))
+      (built .construct .ensures .1 .0) (built .construct .ensures .1 .1 .0) (p .0 .short) in
+      (built .construct .ensures .1 .1 .1, few)
 
   pub same-length : lts.Need-same-length claims (timed-loop-at t) timed-loop.Post
   same-length c = c .before .before .before .before .before .construct .ensures .1 .1 .0
@@ -125,7 +143,7 @@ module _ (t : ℕ) where
       let a = s .args in
       let p = s .pre .1 in
       let refused = timed-refused (read s) (a .time) (a .start) (a .standing) (a .product) (a .s .now) (a .marks .now) (a .held) (a .c) (asideIs (a .aside .now))
-      (p .0 .kept) (p .1 .0) (p .0 .added) (p .0 .room) (tells-refusal (built .construct .ensures .0) (c .before .number .given .1)) in
+      (p .0 .kept) (p .1 .0) (p .0 .added) (p .0 .valued) (p .0 .room) (tells-refusal (built .construct .ensures .0) (c .before .number .given .1)) in
       (a-refusal refused refl, built .construct .ensures .1)
 
   pub same-length-2 : lts.Need-same-length-2 claims (timed-loop-at t) timed-loop.Post
@@ -139,7 +157,7 @@ module _ (t : ℕ) where
       let a = s .args in
       let p = s .pre .1 in
       let w = timed-ends (read s) (a .time) (a .start) (a .standing) (a .product) (a .s .now) (a .marks .now) (a .held) (a .c) (asideIs (a .aside .now)) (p .0 .kept)
-      (p .1 .0) (p .0 .added) (p .0 .room) (built .construct .last .1 .1 .1 .1 .1 .0) (read-by built (told .before .v2 .given .1)) (built .construct .ensures .1 .0)
+      (p .1 .0) (p .0 .added) (p .0 .valued) (p .0 .room) (built .construct .last .1 .1 .1 .1 .1 .0) (read-by built (told .before .v2 .given .1)) (built .construct .ensures .1 .0)
       (built .construct .ensures .1 .1 .0) in (
         told-ended (c .ended2 .ensures .0) (c .ended2 .ensures .1 .0) w,
         (built .construct .ensures .1 .0, (built .construct .ensures .1 .1 .0, c .ended2 .ensures .1 .1)),
