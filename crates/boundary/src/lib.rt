@@ -3,6 +3,7 @@ use reader::Answer;
 ghost use mathlib.Core.Path.{_≡_};
 ghost use lib.ListN.{length};
 ghost use Rattle.meaning.specs.Answer.{told, stored, tableAfter};
+ghost use Rattle.meaning.specs.Work.{work};
 ghost use Rattle.reader.specs.Said.{saidOf};
 ghost use Rattle.margins.specs.Margins.{planned, marginsAfter};
 ghost use Rattle.boundary.specs.Words.{verdictWords, answerWords, partWords};
@@ -29,6 +30,18 @@ pub extern "C" fn maxt_answer(sheet: &[u8], table: &mut [u64], answer: &mut [u64
 {
     let given = calculator::maxt(sheet, table);
     put(given, answer);
+}
+
+// Answers a sheet as maxt_answer does; returns how many constructs were valued, 0 for a refusal.
+#[no_mangle]
+pub extern "C" fn maxt_work(sheet: &[u8], table: &mut [u64], answer: &mut [u64; 3]) -> u64
+    ensures { λ r. ⌜ r ≡ work (now (sheet .entry)) (length (now (table .entry))) ⌝ }
+    ensures { λ _. ⌜ now (answer .exit) ≡ answerWords (now (sheet .entry)) (length (now (table .entry))) ⌝ }
+    ensures { λ _. ⌜ now (table .exit) ≡ tableAfter (now (sheet .entry)) (now (table .entry)) ⌝ }
+{
+    let filled = calculator::fill(sheet, table);
+    put(filled.answer, answer);
+    filled.constructs
 }
 
 // Where the records of a routine start and end; the sheet's end for both where there is no such routine.

@@ -4,11 +4,12 @@ use mathlib.Core.Path.{_≡_}
 use mathlib.Core.Bool.{Bool, true, false}
 use mathlib.Core.List.{List}
 use mathlib.Core.Option.{Option, some, none}
-use lib.ListN.{getD}
+use lib.ListN.{length, getD}
 use Rattle.meaning.specs.Tree.{Marker, Construct, numbered, itself, mark}
 use Rattle.meaning.specs.Format.{pick}
 use Rattle.meaning.specs.Legal.{Reach}
 use Rattle.meaning.specs.Value.{Known, value, total, times, charges}
+use Rattle.meaning.specs.Work.{records}
 use Rattle.meaning.specs.Judgement.{Reading, refused, found}
 use Rattle.meaning.specs.Answer.{valueLimit, ended, tooBig}
 use Rattle.records.specs.declared.Cursor.{Cursor}
@@ -33,17 +34,18 @@ either (some m) other = some m
 either none other = other
 
 -- What is told of the construct c, read from a place up to another, in a scope whose counts multiply to a product down to it.
-pub record Agrees (known : Known) (product at : ℕ) (c : Construct) (past v o e m : ℕ) (next : Cursor) : Type 0 where
+pub record Agrees (known : Known) (product at : ℕ) (c : Construct) (past v o e m w : ℕ) (next : Cursor) : Type 0 where
   pub reached : next .at ≡ past
   pub over : Over (tooBig (ended known at c)) o
   pub amount : tooBig (ended known at c) ≡ none → v ≡ value known c
   pub small : v ≤ valueLimit
   pub added : tooBig (ended known at c) ≡ none → e ≡ min valueCap (total (times product (charges known c)))
   pub marked : m ≡ markNumber (either (itself c) (mark c))
+  pub inside : w + 1 ≡ length (records c)
 
 pub data Same (known : Known) (product at : ℕ) : Parsed → Reading Construct → Type 0 where
   both-refused : {number place : ℕ} → Same known product at (Refused number place) (refused number place)
-  read-done : {c : Construct} {past : ℕ} {p : Share} → Agrees known product at c past (p .value) (p .over) (p .added) (p .mark) (p .next) →
+  read-done : {c : Construct} {past : ℕ} {p : Share} → Agrees known product at c past (p .value) (p .over) (p .added) (p .mark) (p .constructs) (p .next) →
       Same known product at (Done p) (found c past)
 
 -- the bounds that are lent are those of the routines before

@@ -14,6 +14,7 @@ use Rattle.meaning.specs.Format.{pick}
 use Rattle.meaning.specs.Legal.{Reach, nowhere, asBranch}
 use Rattle.meaning.specs.Value.{Known, pays, total, times, value, largest, markedIn, charges, chargesIn}
 use Rattle.meaning.specs.Judgement.{found, andThen, ConstructReader, isMarked, branches, alternativeAt}
+use Rattle.meaning.specs.Work.{records}
 use Rattle.meaning.specs.Answer.{ended, endedIn, tooBig}
 use Rattle.demands.proofs.Good.{Good}
 use Rattle.records.specs.declared.Cursor.{Cursor}
@@ -25,7 +26,7 @@ use Rattle.bridge.proofs.Agree.{standingOf, occurs, Agrees, Same}
 use Rattle.bridge.proofs.Standings.{way-condition, way-branch, alternative-inner}
 use Rattle.bridge.proofs.Ends.{big-end, ended-law}
 use Rattle.bridge.proofs.Charges.{total-append, unreached, Branch, Each, keptMark, keptIn, charges-law}
-use Rattle.bridge.proofs.Children.{Adds, no-more, one-more, none-first, adds-over, adds-added, kept-law, branch-mark, branches-same, branches-top, branches-kept}
+use Rattle.bridge.proofs.Children.{Adds, no-more, one-more, none-first, adds-over, adds-added, adds-constructs, kept-law, branch-mark, branches-same, branches-top, branches-kept}
 use Rattle.bridge.proofs.Marks.{no-marker, mark-limited, unmarked}
 use Rattle.bridge.proofs.Readers.{Alike, Sure, then-assoc, next-child}
 
@@ -65,26 +66,26 @@ module _ (known : Known) (s : List ℕ) (before own : ℕ) (number : own ≡ bef
       next .at ≡ past → Same known product start (closing t' marks' next) (found (make bs) past)) →
       Same known product start (listOf read owner k i c t marks) (andThen (branches g r all k at) (λ bs. found (make bs)))
   unfolding listOf branches
-  branches-law zero i at c t marks all make h e w q p close = close end at t marks c no-more tt q
-  branches-law (suc k) i at c t marks all make h e w q p close =
+  branches-law zero i at c t marks all make h e marking q p close = close end at t marks c no-more tt q
+  branches-law (suc k) i at c t marks all make h e marking q p close =
       let f = pick (eqb k 0) all false in
-      let way = way-branch n 0 held i (length marks) r lies last h ∙ ap (standingOf (asBranch r)) (last-marked all (length marks) i k n w (omega arith)) in
+      let way = way-branch n 0 held i (length marks) r lies last h ∙ ap (standingOf (asBranch r)) (last-marked all (length marks) i k n marking (omega arith)) in
       rw (then-assoc (g (asBranch r) f at) (λ b d. andThen (branches g r (pick all (isMarked (mark b)) false) k d) (λ bs. found (b then bs))) (λ bs. found (make bs)))
-      (next-child _ _ (alike (asBranch r) f product _ _ at c refl way held-inner q p) (sure (asBranch r) f at) (λ v o e' m next b d a x.
+      (next-child _ _ (alike (asBranch r) f product _ _ at c refl way held-inner q p) (sure (asBranch r) f at) (λ v o e' m w next b d a x.
       let long = x .span .long in
       let is : Branch b = (no-marker before depth (asBranch r) b refl (x .legal), mark-limited before depth (asBranch r) b (x .legal)) in
       let kept : keptOf 4 i v m marks ≡ marks ++ keptMark (mark b) v = rw (branch-mark b (a .marked) (is .0)) (kept-law (mark b) i v marks h) in
       let many : length (keptOf 4 i v m marks) ≡ length marks + length (keptMark (mark b) v) = ap length kept ∙ length-append marks (keptMark (mark b) v) in
       rw (then-assoc (branches g r (pick all (isMarked (mark b)) false) k d) (λ bs. found (b then bs)) (λ bs. found (make bs)))
       (branches-law k (i + 1) d next _ _ (pick all (isMarked (mark b)) false) (λ bs. make (b then bs)) (omega arith) (omega arith)
-      (rw many (one-branch all (length marks) i v (mark b) w)) (a .reached) (omega arith)
+      (rw many (one-branch all (length marks) i v (mark b) marking)) (a .reached) (omega arith)
       (λ bs past t' marks' next' adds each z. close (b then bs) past t' marks' next' (one-more a long adds) (is, each) z))))
 
   -- the condition, then the branches, and the end
-  module _ (c : Construct) (d v o e m : ℕ) (to : Cursor) (a : Agrees known product (start + 8) c d v o e m to)
+  module _ (c : Construct) (d v o e m w : ℕ) (to : Cursor) (a : Agrees known product (start + 8) c d v o e m w to)
       (x : Good s before own number depth nowhere false (start + 8) c d) where
     abbrev first : Tally
-    first = withOf 4 n 0 noTally v o e m
+    first = withOf 4 n 0 noTally v o e m w
 
     bare : m ≡ 0
     bare = let h = unmarked before depth nowhere c refl refl (x .legal) in a .marked ∙ rw (h .0, h .1)
@@ -95,11 +96,11 @@ module _ (known : Known) (s : List ℕ) (before own : ℕ) (number : own ≡ bef
 
     closed : (bs : Constructs) (past : ℕ) (t : Tally) (marks : List ℕ) (next : Cursor) → Adds known 4 n product 1 d first (keptOf 4 0 v m []) bs past t marks →
         Each Branch bs → next .at ≡ past → Same known product start (closing t marks next) (found (alternative c bs) past)
-    unfolding closeOf ended value withOf counted times total
+    unfolding closeOf ended value withOf counted times total records
     closed bs past t marks next adds each q =
         let (same, kept-mark) = branches-same adds (omega arith) in
         let all = one-more a (x .span .long) adds in
-        ended-law known product start (alternative c bs) _ _ _ _ past next place q (tooBig (endedIn known (start + 8) (c then bs))) (record {
+        ended-law known product start (alternative c bs) _ _ _ _ _ past next place q (tooBig (endedIn known (start + 8) (c then bs))) (record {
           listed = big-end (endedIn known (start + 8) (c then bs)) known start (alternative c bs);
           first = adds-over all none refl;
           amount = λ z.
@@ -118,6 +119,7 @@ module _ (known : Known) (s : List ℕ) (before own : ℕ) (number : own ≡ bef
               let free = unreached known before depth product nowhere c refl (x .legal) in
               rw (mul-one product) (omega arith);
           marked = kept-mark ∙ rw bare;
+          inside = omega (arith, adds-constructs all);
         })
 
     rest-law : Same known product start (listOf read owner n 1 to first (keptOf 4 0 v m [])) (andThen (branches g r true n d) (λ bs. found (alternative c bs)))
@@ -129,4 +131,4 @@ module _ (known : Known) (s : List ℕ) (before own : ℕ) (number : own ≡ bef
   unfolding listOf alternativeAt
   alternative-law =
       next-child _ _ (alike nowhere false product _ _ (start + 8) _ refl (way-condition n 0 held (standingOf r last) 0) held-inner refl (omega arith))
-      (sure nowhere false (start + 8)) (λ v o e m next c d a x. rest-law c d v o e m next a x)
+      (sure nowhere false (start + 8)) (λ v o e m w next c d a x. rest-law c d v o e m w next a x)

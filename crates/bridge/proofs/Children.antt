@@ -4,13 +4,14 @@ use mathlib.Core.Path.{_≡_, refl, sym, _∙_}
 use mathlib.Core.Bool.{false, not}
 use mathlib.Core.List.{List, _++_, append-assoc, append-nil}
 use mathlib.Core.Option.{Option, some, none}
-use lib.ListN.{length}
+use lib.ListN.{length, length-append}
 use lib.Dec.{eqb}
 use borrow.Author.Tests.{ne-eqb}
 use native.Mathlib.Omega.{arith}
 use Rattle.meaning.specs.Tree.{Marker, Construct, Constructs, end, _then_, itself, mark}
 use Rattle.meaning.specs.Format.{pick, bytes}
 use Rattle.meaning.specs.Value.{Known, larger, total, times, value, sum, largest, charges, chargesIn}
+use Rattle.meaning.specs.Work.{records, recordsIn}
 use Rattle.meaning.specs.Judgement.{isMarked}
 use Rattle.meaning.specs.Answer.{ended, endedIn, tooBig}
 use Rattle.demands.proofs.Good.{Unmarked}
@@ -25,9 +26,9 @@ use Rattle.bridge.proofs.Charges.{total-append, Branch, Each, keptMark,
 -- to these
 pub data Adds (known : Known) (kind count inner : ℕ) : ℕ → ℕ → Tally → List ℕ → Constructs → ℕ → Tally → List ℕ → Type 0 where
   no-more : {i at : ℕ} {t : Tally} {marks : List ℕ} → Adds known kind count inner i at t marks end at t marks
-  one-more : {i at d past v o e m : ℕ} {t t' : Tally} {marks marks' : List ℕ} {c : Construct} {cs : Constructs} {next : Cursor} →
-      Agrees known inner at c d v o e m next → d ≡ at + length (bytes c) →
-      Adds known kind count inner (i + 1) d (withOf kind count i t v o e m) (keptOf kind i v m marks) cs past t' marks' →
+  one-more : {i at d past v o e m w : ℕ} {t t' : Tally} {marks marks' : List ℕ} {c : Construct} {cs : Constructs} {next : Cursor} →
+      Agrees known inner at c d v o e m w next → d ≡ at + length (bytes c) →
+      Adds known kind count inner (i + 1) d (withOf kind count i t v o e m w) (keptOf kind i v m marks) cs past t' marks' →
       Adds known kind count inner i at t marks (c then cs) past t' marks'
 
 -- what the children add to their owner's value
@@ -60,6 +61,16 @@ module _ {known : Known} {kind count inner : ℕ} where
       let (x, y) = none-first known at d c cs q z in
       let e = g .added x in
       adds-added rest y (u + total (times inner (charges known c))) (omega arith) ∙ rw (total-append inner (charges known c) (chargesIn known cs)) (omega arith)
+
+  -- how many constructs they are, with those that they own
+  pub adds-constructs : {i at past : ℕ} {t t' : Tally} {marks marks' : List ℕ} {cs : Constructs} → Adds known kind count inner i at t marks cs past t' marks' →
+      t' .constructs ≡ t .constructs + length (recordsIn cs)
+  unfolding withOf records
+  adds-constructs no-more = omega arith
+  adds-constructs (one-more {c = c} {cs = cs} g q rest) =
+      let more = length-append (records c) (recordsIn cs) in
+      let later = adds-constructs rest in
+      omega (arith, g .inside)
 
   -- of a record that is no alternative
   module _ (plain : (i : ℕ) → isBranch kind i ≡ false) where

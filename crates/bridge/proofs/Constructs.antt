@@ -4,6 +4,7 @@ use mathlib.Core.Path.{_≡_, refl, sym}
 use mathlib.Core.Bool.{Bool, true, false≢true}
 use mathlib.Core.List.{List, []}
 use mathlib.Core.Option.{none}
+use lib.ListN.{length}
 use lib.Dec.{leb, eqb}
 use borrow.Author.Tests.{le-ltb, leb-false, eqb-false}
 use native.Mathlib.Omega.{arith}
@@ -12,6 +13,7 @@ use Rattle.meaning.specs.Tree.{Construct, primitive, call, marker, itself, mark
 use Rattle.meaning.specs.Format.{rangesOf, Record}
 use Rattle.meaning.specs.Legal.{Reach}
 use Rattle.meaning.specs.Value.{Known, total, times, value, charges}
+use Rattle.meaning.specs.Work.{records}
 use Rattle.meaning.specs.Judgement.{Reading, refused, found, andThen, construct, ConstructReader, owned, constructAt}
 use Rattle.meaning.specs.Answer.{valueLimit, ended, ends, tooBig}
 use Rattle.meaning.proofs.Laws.{pick-false}
@@ -33,21 +35,21 @@ use Rattle.bridge.proofs.Loops.{head-loop-law, tail-loop-law, timed-loo
 
 -- a construct that owns nothing has its value and at most a mark
 leaf : (known : Known) (product at next v m : ℕ) (c : Construct) → v ≡ value known c → v ≤ valueLimit → ended known at c ≡ ends known at c → charges known c ≡ [] →
-    m ≡ markNumber (either (itself c) (mark c)) → Agrees known product at c next v 0 0 m (record { at = next })
+    m ≡ markNumber (either (itself c) (mark c)) → 1 ≡ length (records c) → Agrees known product at c next v 0 0 m 0 (record { at = next })
 unfolding tooBig times total
-leaf known product at next v m c e h alone free marked =
+leaf known product at next v m c e h alone free marked only =
     let small : tooBig (ended known at c) ≡ none = rw (alone, ← e, le-ltb valueLimit v h) in
-    record { reached = refl; over = rw small; amount = λ z. e; small = h; added = λ z. rw free; marked = marked }
+    record { reached = refl; over = rw small; amount = λ z. e; small = h; added = λ z. rw free; marked = marked; inside = only }
 
 module _ (known : Known) (s bounds : List ℕ) (before own : ℕ) (number : own ≡ before + 1) (finds : Finds known bounds before) (small : NoneOverLimit bounds) where
   module _ (depth left : ℕ) (read : ChildReader) (g : ConstructReader) (alike : Alike known read g) (sure : Sure s before own number (suc depth) g)
       (r : Reach) (lies : occurs r ≡ true) (last : Bool) (product held at : ℕ) (cap : held ≡ min 1000000 product) (place : 1 ≤ at) where
     owned-law : {x : Record} {next : ℕ} → Sort x → Judged s (construct own left r last) at x next →
         Same known product at (ownedOf read bounds at (standingOf r last) held (foundOf (found x next))) (owned g r last x next)
-    unfolding ownedOf rangesOf ended value
+    unfolding ownedOf rangesOf ended value records
     owned-law {next = next} (a-primitive cost) j =
         let few = first-most _ _ cost _ (j .range) .0 in
-        read-done (leaf known product at next cost 0 (primitive (record { cost = cost })) refl (omega arith) refl refl refl)
+        read-done (leaf known product at next cost 0 (primitive (record { cost = cost })) refl (omega arith) refl refl refl refl)
     owned-law (a-sequence n) j =
         rw (past-record j) (sequence-law known s before own number (suc depth) read g alike sure n product held at cap place r lies last)
     owned-law (an-alternative n h) j =
@@ -64,11 +66,11 @@ module _ (known : Known) (s bounds : List ℕ) (before own : ℕ) (number : own 
         let (x, y) = pick-false (eqb k 0) (leb own k) (j .place .0) in
         let low = eqb-false k 0 x in
         let high = leb-false own k y in
-        read-done (leaf known product at next _ 0 (call (record { routine = k })) (finds k (omega arith) (omega arith)) (small (k - 1)) refl refl refl)
+        read-done (leaf known product at next _ 0 (call (record { routine = k })) (finds k (omega arith) (omega arith)) (small (k - 1)) refl refl refl refl)
     owned-law {next = next} (a-marker limit cost) j =
         let rest = first-most _ _ limit _ (j .range) .1 in
         let few = first-most _ _ cost _ rest .0 in
-        read-done (leaf known product at next cost (limit + 1) (marker (record { limit = limit; cost = cost })) refl (omega arith) refl refl refl)
+        read-done (leaf known product at next cost (limit + 1) (marker (record { limit = limit; cost = cost })) refl (omega arith) refl refl refl refl)
 
     -- what is judged good is owned; at depth 25 nothing is
     record-law : {j : Reading Record} → Found (Judged s (construct own left r last) at) j →

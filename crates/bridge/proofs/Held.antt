@@ -13,7 +13,9 @@ use native.Mathlib.Numerals.{add-one}
 use Rattle.meaning.specs.Tree.{Routine}
 use Rattle.meaning.specs.Format.{pick, routinesBytes}
 use Rattle.meaning.specs.Value.{Known, value, bounds, nothing, boundsOf, taskBound}
+use Rattle.meaning.specs.Work.{records, valuingRoutines}
 use Rattle.meaning.specs.Answer.{ended, endedRoutines, endedOf, tooBig, accepted, partIn}
+use Rattle.meaning.proofs.Works.{one-more}
 use Rattle.demands.proofs.Limit.{NoneOverLimit}
 use Rattle.records.specs.declared.Cursor.{Cursor}
 use Rattle.reader.specs.declared.Bounds.{Bounds}
@@ -47,29 +49,40 @@ module _ (s : List ℕ) (number edition : ℕ) where
     pub values : bigIn rs ≡ none → take (b .count) (b .values) ≡ boundsOf (sheetWith edition rs)
     pub last : bigIn rs ≡ none → progress .last ≡ taskBound (sheetWith edition rs)
     pub part : partIn s (accepted (sheetWith edition rs)) number ≡ record { start = progress .start; stop = progress .end }
+    pub constructs : b .constructs ≡ (valuingRoutines nothing rs) .constructs
 
   pub holds-none : (c : Cursor) → c .at ≡ 12 → Holds [] noBounds (progressFrom (length s) c)
-  unfolding noBounds progressFrom routinesBytes endedRoutines tooBig bounds
-  holds-none c e = record { place = e; many = refl; room = refl; small = none-small 64; over = refl; values = λ _. refl; last = λ _. refl; part = none-asked number }
+  unfolding noBounds progressFrom routinesBytes endedRoutines tooBig bounds valuingRoutines
+  holds-none c e = record {
+    place = e;
+    many = refl;
+    room = refl;
+    small = none-small 64;
+    over = refl;
+    values = λ _. refl;
+    last = λ _. refl;
+    part = none-asked number;
+    constructs = refl;
+  }
     where
       none-asked : (k : ℕ) → partIn s (accepted (sheetWith edition [])) k ≡ record { start = length s; stop = length s }
       none-asked zero = refl
       none-asked (suc i) = rw (le-ltb i 0 (omega arith))
 
   module _ {rs : List Routine} {b : Bounds} {progress : Progress} (d : Holds rs b progress) (space : b .count < 64)
-      {r : Routine} {past v o e m : ℕ} {next : Cursor} (f : Agrees (knownTo b) 0 (progress .at .at) (asLoop r) past v o e m next)
+      {r : Routine} {past v o e m w : ℕ} {next : Cursor} (f : Agrees (knownTo b) 0 (progress .at .at) (asLoop r) past v o e m w next)
       (long : Long (progress .at .at) r past) where
     abbrev known : Known
     known = bounds nothing rs
 
     -- while no record was too big, the code's bounds are the sheet's
-    agrees : bigIn rs ≡ none → Agrees known 0 (placeAfter rs) (asLoop r) past v o e m next
+    agrees : bigIn rs ≡ none → Agrees known 0 (placeAfter rs) (asLoop r) past v o e m w next
     agrees h =
         let same : knownTo b ≡ known = ap (λ z. record { bounds = z }) (d .values h) in
         rw (← same, ← d .place) f
 
-    pub holds-more : Holds (more r rs) (boundsWith b v) (progressWith progress (b .count + 1) number v o next)
-    unfolding boundsWith progressWith
+    pub holds-more : Holds (more r rs) (boundsWith b v w) (progressWith progress (b .count + 1) number v o next)
+    unfolding boundsWith progressWith records
     holds-more = record {
       place = place;
       many = (let n = length-more r rs in let k = d .many in omega arith);
@@ -79,6 +92,7 @@ module _ (s : List ℕ) (number edition : ℕ) where
       values = values;
       last = last;
       part = rw (ap (λ n. eqb (n + 1) number) (d .many)) (part-more r s edition rs number ∙ part (eqb (length rs + 1) number));
+      constructs = omega (arith, d .constructs, one-more nothing rs r, f .inside);
     }
       where
         place : next .at ≡ placeAfter (more r rs)

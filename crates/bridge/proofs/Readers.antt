@@ -37,9 +37,9 @@ past-record {at = at} {x = x} j = j .span .long ∙ ap (λ z. at + z) (length-re
 
 -- one child, then the rest
 pub next-child : {known : Known} {product at inner at' : ℕ} {P : Construct → ℕ → Type 0} {q : Parsed} {x : Reading Construct}
-    (f : ℕ → ℕ → ℕ → ℕ → Cursor → Parsed) (k : Construct → Reader Construct) → Same known inner at' q x → Found P x →
-    ((v o e m : ℕ) (next : Cursor) (c : Construct) (past : ℕ) → Agrees known inner at' c past v o e m next → P c past →
-    Same known product at (f v o e m next) (k c past)) →
+    (f : ℕ → ℕ → ℕ → ℕ → ℕ → Cursor → Parsed) (k : Construct → Reader Construct) → Same known inner at' q x → Found P x →
+    ((v o e m w : ℕ) (next : Cursor) (c : Construct) (past : ℕ) → Agrees known inner at' c past v o e m w next → P c past →
+    Same known product at (f v o e m w next) (k c past)) →
     Same known product at (onParsed q Refused f) (andThen x k)
 next-child f k both-refused (not-read n) h = both-refused
-next-child f k (read-done a) (was-read g) h = h _ _ _ _ _ _ _ a g
+next-child f k (read-done a) (was-read g) h = h _ _ _ _ _ _ _ _ a g

@@ -13,6 +13,7 @@ use Rattle.meaning.specs.Tree.{Routine, Sheet}
 use Rattle.meaning.specs.Format.{pick, Record, field, of, sheetRows, InRange, rangesOf}
 use Rattle.meaning.specs.Judgement.{Reading, Reader, found, andThen, refuse, sheet, routinesAt, sheetAt}
 use Rattle.meaning.specs.Answer.{pastRecord, endedOf, tooBig, Verdict, accepted, refused, sized, judgement, told, stored, partIn}
+use Rattle.meaning.specs.Work.{constructsValued}
 use Rattle.demands.proofs.Found.{Found, not-read, was-read}
 use Rattle.demands.proofs.Records.{Judged, judged-good, sheet-is}
 use Rattle.records.specs.declared.Cursor.{Cursor}
@@ -33,15 +34,17 @@ use Rattle.bridge.proofs.More.{asLoop, Long, sheetWith, more}
 use Rattle.bridge.proofs.Routines.{routine-long, routine-law}
 use Rattle.bridge.proofs.Held.{knownTo, finds, Holds, holds-none, holds-more}
 
--- what a report says of a verdict: the answer; on acceptance the bounds; the part of the routine that was asked for
+-- what a report says of a verdict: the answer; on acceptance the bounds; the part of the routine that was asked for; on acceptance the
+-- constructs valued
 pub record Reports (s : List ℕ) (number : ℕ) (r : Report) (v : Verdict Sheet) : Type 0 where
   pub said : saidOf (r .reply .answer) ≡ told v
   pub kept : (b : ℕ) → r .reply .answer ≡ Accepted b → (table : List ℕ) → storedOf (r .bounds) table ≡ stored v table
   pub part : partSaid r ≡ partIn s v number
+  pub valued : (b : ℕ) → r .reply .answer ≡ Accepted b → r .bounds .constructs ≡ constructsValued v
 
 pub refusal-law : (s : List ℕ) (number k place : ℕ) (b : Bounds) → Reports s number (reportOf (refusal (length s) k place) b) (refused k place)
 unfolding refusal
-refusal-law s number k place b = record { said = refl; kept = λ _ e _. cc; part = refl }
+refusal-law s number k place b = record { said = refl; kept = λ _ e _. cc; part = refl; valued = λ _ e. cc }
 
 -- TOO BIG, then acceptance
 abbrev sizedReply : ℕ → Progress → Reply
@@ -70,6 +73,7 @@ module _ (s : List ℕ) (number edition : ℕ) where
             said = ap (λ z. accepted z) (d .last p);
             kept = λ _ _ table. ap₂ (λ xs n. xs ++ drop n table) (d .values p) (d .many);
             part = sym (d .part);
+            valued = λ _ _. d .constructs;
           })
       by-values (some place) p x = rw (ne-eqb (progress .over) 0 (λ e. omega arith), x .0) (refusal-law s number 12 place b)
 
@@ -103,18 +107,18 @@ module _ (s : List ℕ) (number edition : ℕ) where
       later : Reader (List Routine)
       later = routinesAt n s (b .count + 1 + 1)
 
-      onward : ℕ → ℕ → Cursor → Report
-      onward v o next = routinesOf n s number (boundsWith b v) (progressWith progress (b .count + 1) number v o next)
+      onward : ℕ → ℕ → ℕ → Cursor → Report
+      onward v o w next = routinesOf n s number (boundsWith b v w) (progressWith progress (b .count + 1) number v o next)
 
-      one-more : {r : Routine} {past v o e m : ℕ} {next : Cursor} → Long (progress .at .at) r past →
-          Agrees (knownTo b) 0 (progress .at .at) (asLoop r) past v o e m next → Reports s number (onward v o next) (verdictWith rs (after r (later past)))
-      one-more {r} {v = v} {o = o} {next = next} long a =
+      one-more : {r : Routine} {past v o e m w : ℕ} {next : Cursor} → Long (progress .at .at) r past →
+          Agrees (knownTo b) 0 (progress .at .at) (asLoop r) past v o e m w next → Reports s number (onward v o w next) (verdictWith rs (after r (later past)))
+      one-more {r} {v = v} {o = o} {w = w} {next = next} long a =
           rw (← a .reached)
-          (subst (Reports s number (onward v o next)) (regroup rs r (later (next .at))) (law _ _ _ (holds-more s number edition d (omega arith) a long) (omega arith)))
+          (subst (Reports s number (onward v o w next)) (regroup rs r (later (next .at))) (law _ _ _ (holds-more s number edition d (omega arith) a long) (omega arith)))
 
       by-routine : {q : Parsed} {g : Reading Routine} → Found (Long (progress .at .at)) g →
           Same (knownTo b) 0 (progress .at .at) q (andThen g (λ r. found (asLoop r))) →
-          Reports s number (onParsed q (λ k p. reportOf (refusal (length s) k p) b) (λ v o e m next. onward v o next))
+          Reports s number (onParsed q (λ k p. reportOf (refusal (length s) k p) b) (λ v o e m w next. onward v o w next))
           (verdictWith rs (andThen g (λ r past. after r (later past))))
       by-routine (not-read {number = k} {place = p} n) both-refused = refusal-law s number k p b
       by-routine (was-read long) (read-done a) = one-more long a

@@ -5,6 +5,7 @@ ghost use mathlib.Core.Path.{_≡_};
 ghost use Prim.Native.Nat.{_≤_};
 ghost use lib.ListN.{length};
 ghost use Rattle.meaning.specs.Answer.{answer, tableAfter, partOf, routinePart};
+ghost use Rattle.meaning.specs.Work.{work};
 ghost use Rattle.reader.specs.Said.{saidOf};
 ghost use Rattle.reader.specs.Reports.{storedOf};
 ghost use Rattle.calculator.specs.Promises.{filled, partAt};
@@ -16,10 +17,11 @@ pub struct Places {
     pub end: usize,
 }
 
-// What comes back: the answer, and of how many routines the table holds the bounds.
+// What comes back: the answer, of how many routines the table holds the bounds, and how many constructs were valued for them.
 pub struct Filled {
     pub answer: Answer,
     pub routines: u64,
+    pub constructs: u64,
 }
 
 fn is_accepted(answer: Answer) -> bool
@@ -49,6 +51,7 @@ fn copy_out(b: Bounds, table: &mut [u64])
 pub fn fill(sheet: &[u8], table: &mut [u64]) -> Filled
     ensures { λ r. ⌜ saidOf (r .answer) ≡ answer (now (sheet .entry)) (length (now (table .entry))) ⌝ }
     ensures { λ r. ⌜ r .routines ≡ filled (now (sheet .entry)) (length (now (table .entry))) ⌝ }
+    ensures { λ r. ⌜ r .constructs ≡ work (now (sheet .entry)) (length (now (table .entry))) ⌝ }
     ensures { λ _. ⌜ now (table .exit) ≡ tableAfter (now (sheet .entry)) (now (table .entry)) ⌝ }
     ensures { λ r. ⌜ r .routines ≤ 64 ⌝ }
 {
@@ -56,6 +59,7 @@ pub fn fill(sheet: &[u8], table: &mut [u64]) -> Filled
         return Filled {
             answer: Answer::Refused(1, 0),
             routines: 0,
+            constructs: 0,
         };
     }
     let report = reader::read(sheet, 0);
@@ -64,15 +68,18 @@ pub fn fill(sheet: &[u8], table: &mut [u64]) -> Filled
     if is_accepted(answer) {
         let b = report.bounds;
         let routines = b.count;
+        let constructs = b.constructs;
         copy_out(b, table);
         return Filled {
             answer: answer,
             routines: routines,
+            constructs: constructs,
         };
     }
     Filled {
         answer: answer,
         routines: 0,
+        constructs: 0,
     }
 }
 
