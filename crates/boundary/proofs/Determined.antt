@@ -13,6 +13,9 @@ use Rattle.boundary.proofs.maxt_margins.Reads as margins-reads
 use Rattle.boundary.proofs.maxt_routine as routine
 use Rattle.boundary.proofs.maxt_routine.Kinds as routine-kinds
 use Rattle.boundary.proofs.maxt_routine.Reads as routine-reads
+use Rattle.boundary.proofs.maxt_work as work
+use Rattle.boundary.proofs.maxt_work.Kinds as work-kinds
+use Rattle.boundary.proofs.maxt_work.Reads as work-reads
 
 -- `maxt_answer`: the table after and the three numbers after, s .1 .0 and s .1 .1 .0
 module _ (κs : Lfts 3) (a : ArgsD answer.signature κs) where
@@ -25,6 +28,12 @@ module _ (κs : Lfts 2) (a : ArgsD routine.signature κs) where
   pub routine-determined : (r q : ResD routine.signature κs) (s u : AtExit (endedOf 2 routine-kinds.ps routine-kinds.r) κs) →
       routine-reads.Post κs a r s → routine-reads.Post κs a q u → s .1 .1 .0 .now ≡ u .1 .1 .0 .now
   routine-determined r q s u m n = m ∙ sym n
+
+-- `maxt_work`: the constructs valued, the table after and the three numbers after
+module _ (κs : Lfts 3) (a : ArgsD work.signature κs) where
+  pub work-determined : (r q : ResD work.signature κs) (s u : AtExit (endedOf 3 work-kinds.ps work-kinds.r) κs) → work-reads.Post κs a r s →
+      work-reads.Post κs a q u → (r ≡ q) × (s .1 .0 .now ≡ u .1 .0 .now) × (s .1 .1 .0 .now ≡ u .1 .1 .0 .now)
+  work-determined r q s u m n = (m .0 ∙ sym (n .0), m .1 .1 ∙ sym (n .1 .1), m .1 .0 ∙ sym (n .1 .0))
 
 -- `maxt_margins`: the table after, the margins after and the three numbers after
 module _ (κs : Lfts 5) (a : ArgsD margins.signature κs) where

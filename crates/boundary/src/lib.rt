@@ -40,7 +40,8 @@ pub extern "C" fn maxt_work(sheet: &[u8], table: &mut [u64], answer: &mut [u64; 
     ensures { λ _. ⌜ now (table .exit) ≡ tableAfter (now (sheet .entry)) (now (table .entry)) ⌝ }
 {
     let filled = calculator::fill(sheet, table);
-    put(filled.answer, answer);
+    let given = filled.answer;
+    put(given, answer);
     filled.constructs
 }
 

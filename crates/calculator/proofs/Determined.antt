@@ -28,13 +28,15 @@ one-answer (Accepted x) (Refused n p) e = cc
 one-answer (Refused n p) (Accepted y) e = cc
 one-answer (Refused n p) (Refused m q) e = cc
 
--- `fill`: of the sheet a .0 and the table a .1 .0, the answer and the number of routines r and the table after, s .1 .0
+-- `fill`: of the sheet a .0 and the table a .1 .0, the answer, the number of routines and the constructs valued r and the table after, s .1 .0
 module _ (κs : Lfts 2) (a : ArgsD fill.signature κs) where
   pub fill-determined : (r q : ResD fill.signature κs) (s u : AtExit (endedOf 2 fill-kinds.ps fill-kinds.r) κs) → fill-reads.Post κs a r s →
       fill-reads.Post κs a q u → (r ≡ q) × (s .1 .0 .now ≡ u .1 .0 .now)
   fill-determined r q s u m n =
       let same = one-answer (r .answer) (q .answer) (m .0 ∙ sym (n .0)) in
-      (λ i. record { answer = same i; routines = (m .1 .0 ∙ sym (n .1 .0)) i }, m .1 .1 .0 ∙ sym (n .1 .1 .0))
+      let routines = m .1 .0 ∙ sym (n .1 .0) in
+      let constructs = m .1 .1 .0 ∙ sym (n .1 .1 .0) in
+      (λ i. record { answer = same i; routines = routines i; constructs = constructs i }, m .1 .1 .1 .0 ∙ sym (n .1 .1 .1 .0))
 
 -- `maxt`: of the sheet a .0 and the table a .1 .0, the answer r and the table after, s .1 .0
 module _ (κs : Lfts 2) (a : ArgsD maxt.signature κs) where

@@ -11,6 +11,7 @@ use native.Mathlib.Numerals.{add-one}
 use Rattle.meaning.specs.Tree.{Sheet}
 use Rattle.meaning.specs.Value.{nothing, boundsOf}
 use Rattle.meaning.specs.Answer.{Verdict, accepted, refused, outcome, told, answer, stored, tableAfter, boundIn, partOf, routinePart}
+use Rattle.meaning.specs.Work.{constructsValued, work}
 use Rattle.runs.proofs.Reached.{length-bounds}
 use Rattle.demands.proofs.Span.{AreBytes}
 use Rattle.demands.proofs.Parts.{part-inside}
@@ -32,23 +33,25 @@ stored-more none v t i h k =
     let l : length (take i v) ≡ i = simp length-take (omega arith) in
     rw (drop-cons t i none, set-at (take i v) (getD t i none) (drop (suc i) t) (getD v i none) i l, add-one i, take-suc v i none, append-assoc)
 
--- what `fill` promises: what is said, of how many routines, and the table after
-abbrev Fills : List ℕ → List ℕ → Verdict ℕ → ℕ → List ℕ → Type 0
-Fills s table said routines after =
-    (said ≡ answer s (length table)) × ((routines ≡ filled s (length table)) × ((after ≡ tableAfter s table) × (routines ≤ 64)))
+-- what `fill` promises: what is said, of how many routines, the constructs valued, and the table after
+abbrev Fills : List ℕ → List ℕ → Verdict ℕ → ℕ → ℕ → List ℕ → Type 0
+Fills s table said routines constructs after =
+    (said ≡ answer s (length table))
+    × ((routines ≡ filled s (length table)) × ((constructs ≡ work s (length table)) × ((after ≡ tableAfter s table) × (routines ≤ 64))))
 
 -- NO ROOM
-pub no-room : (s table : List ℕ) → length table < 64 → Fills s table (refused 1 0) 0 table
-unfolding answer filled tableAfter
-no-room s table h = rw (lt-ltb (length table) 64 h) (refl, (refl, (refl, omega arith)))
+pub no-room : (s table : List ℕ) → length table < 64 → Fills s table (refused 1 0) 0 0 table
+unfolding answer filled work tableAfter
+no-room s table h = rw (lt-ltb (length table) 64 h) (refl, (refl, (refl, (refl, omega arith))))
 
--- a sheet that is refused fills and stores nothing
-none-filled : (v : Verdict Sheet) {number place : ℕ} (table : List ℕ) → refused number place ≡ told v → (0 ≡ filledBy v) × (table ≡ stored v table)
-none-filled (accepted t) table e = (cc, cc)
-none-filled (refused n p) table e = (refl, refl)
+-- a sheet that is refused fills, counts and stores nothing
+none-filled : (v : Verdict Sheet) {number place : ℕ} (table : List ℕ) → refused number place ≡ told v →
+    (0 ≡ filledBy v) × (0 ≡ constructsValued v) × (table ≡ stored v table)
+none-filled (accepted t) table e = (cc, cc, cc)
+none-filled (refused n p) table e = (refl, refl, refl)
 
 refused-by : (a : Answer) → isAccepted a ≡ false → (s table : List ℕ) → saidOf a ≡ told (outcome s) →
-    (0 ≡ filledBy (outcome s)) × (table ≡ stored (outcome s) table)
+    (0 ≡ filledBy (outcome s)) × (0 ≡ constructsValued (outcome s)) × (table ≡ stored (outcome s) table)
 refused-by (Accepted bound) e s table said = absurd (false≢true (sym e))
 refused-by (Refused number place) e s table said = none-filled (outcome s) table said
 
@@ -80,19 +83,19 @@ one-each (accepted t) b bound table e few same =
     )
 
 module _ {s : List ℕ} (table : List ℕ) (room : 64 ≤ length table) {report : Report} (reported : Reported s 0 report) where
-  pub refuses : isAccepted (report .reply .answer) ≡ false → Fills s table (saidOf (report .reply .answer)) 0 table
-  unfolding answer filled tableAfter
+  pub refuses : isAccepted (report .reply .answer) ≡ false → Fills s table (saidOf (report .reply .answer)) 0 0 table
+  unfolding answer filled work tableAfter
   refuses e =
       let none = refused-by (report .reply .answer) e s table (reported .said) in
-      rw (le-ltb (length table) 64 room) (reported .said, (none .0, (none .1, omega arith)))
+      rw (le-ltb (length table) 64 room) (reported .said, (none .0, (none .1, (none .2, omega arith))))
 
   pub accepts : {after : List ℕ} → isAccepted (report .reply .answer) ≡ true → report .bounds .count ≤ 64 →
-      after ≡ storedOf (report .bounds) table → Fills s table (saidOf (report .reply .answer)) (report .bounds .count) after
-  unfolding answer filled tableAfter
+      after ≡ storedOf (report .bounds) table → Fills s table (saidOf (report .reply .answer)) (report .bounds .count) (report .bounds .constructs) after
+  unfolding answer filled work tableAfter
   accepts e few f =
       let is = accepted-with (report .reply .answer) e in
       let all = one-each (outcome s) (report .bounds) _ table (sym (ap saidOf is) ∙ reported .said) (omega arith) (reported .kept _ is) in
-      rw (le-ltb (length table) 64 room) (reported .said, (all, (f ∙ reported .kept _ is table, few)))
+      rw (le-ltb (length table) 64 room) (reported .said, (all, (reported .valued _ is, (f ∙ reported .kept _ is table, few))))
 
 module _ (s : List ℕ) (number : ℕ) {p : Places} (same : partAt p ≡ partOf s number) where
   pub inside : AreBytes s → (p .start ≤ p .end) × (p .end ≤ length s)

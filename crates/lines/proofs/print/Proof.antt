@@ -37,7 +37,7 @@ returns c =
     let fill = c .before .before .before .before .before .before .before .before .before .fill in
     let lent = c .before .before .before .before .before .before .before .before .before .before .before .no-bounds in
     prints-bounds (args .sheet .now) (lent .result) (args .page .now) (lent .ensures) (search needs)
-    (c .before .before .before .before .before .before .answer .given .1) (fill .ensures .0) (fill .ensures .1)
+    (c .before .before .before .before .before .before .answer .given .1) (fill .ensures .0) (fill .ensures .1 .0, fill .ensures .1 .1 .1)
     (c .before .before .put-routines .ensures) (c .put-bound .ensures)
 
 returns-2 : tie.Need-returns-2

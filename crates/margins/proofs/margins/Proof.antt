@@ -15,7 +15,7 @@ judged : (c : tie.After-all-or-none) →
 judged c =
     let filled = c .before .before .before in
     let tests = filled .before .before in
-    let (said, (routines, (stored, few))) = filled .fill .ensures in
+    let (said, (routines, (constructs, (stored, few)))) = filled .fill .ensures in
     record {
       long = record { room = tests .before .before .if1 .left; for-deadlines = tests .before .if2 .left; for-margins = tests .if3 .left };
       before = _;
