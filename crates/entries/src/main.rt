@@ -1,5 +1,6 @@
 // What the library's entries come to for a sheet of three routines, and for 20 bytes that are refused: the answers to tables of
-// 63 and 65 places, how many of their places are as they were, and the places and the length of the records of routines inside and outside.
+// 63 and 65 places, how many constructs are valued, how many of their places are as they were, and the places and the length of the records of
+// routines inside and outside.
 // Then the margins, for routines that are late, just fit and are early, and each refusal with deadlines.
 use libc::STDIN_FILENO;
 use libc::STDOUT_FILENO;
@@ -63,6 +64,8 @@ fn lend(sheet: &[u8], table: &mut [u64]) {
     say(b"room ", table.len() as u64);
     let answer = calculator::maxt(sheet, table);
     say_answer(answer);
+    let filled = calculator::fill(sheet, table);
+    say(b" constructs ", filled.constructs);
     say(b" unchanged ", unchanged(table));
     io::write_all(STDOUT_FILENO, b"\n");
 }
