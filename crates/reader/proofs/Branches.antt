@@ -1,6 +1,6 @@
 -- The list of an alternative, its condition and its branches: what holds whenever its loop is at its test, how a child keeps it, and its end.
 use Prim.Native.Nat.{ℕ, _+_, _-_, _*_, _≤_, _<_, min}
-use mathlib.Core.Path.{_≡_, refl, sym, ap, subst, _∙_}
+use mathlib.Core.Path.{_≡_, refl, sym, ap, _∙_}
 use mathlib.Core.Bool.{Bool, true, false}
 use mathlib.Core.List.{List}
 use lib.Dec.{eqb}
@@ -10,13 +10,13 @@ use borrow.Author.Tests.{ne-eqb}
 use Rattle.meaning.specs.Format.{pick}
 use Rattle.records.specs.declared.Cursor.{Cursor}
 use Rattle.reader.specs.declared.Parsed.the-variants as parsed
-use Rattle.reader.specs.Tallies.{Aside, asideIs, addedAs, markAs, valueCap, counted, Share, Tally, chargesOf, withOf, keptOf, valueTold, closeOf, toppedOf, asideTold, Countable, Valued}
+use Rattle.reader.specs.Tallies.{Aside, asideIs, addedAs, markAs, valueCap, counted, Share, Tally, chargesOf, withOf, keptOf, valueTold, closeOf, toppedOf, asideTold, Valued}
 use Rattle.reader.specs.Reader.{ownerOf, ChildReader, childOf, listOf, listFrom, Within}
 use Rattle.reader.proofs.Laws.{pick-same, pick-most, no-loop, Kept, kept-alike}
 use Rattle.reader.proofs.Tells.{aside-small, over-kept, Closing, closed}
 use Rattle.reader.proofs.Lists.{list-end}
 use Rattle.reader.proofs.Going.{kept, kept-part, Going, going-first, Child, child-of, child-room, child-more}
-use Rattle.reader.proofs.Constructs.{set-added, set-mark, set-four, added-countable}
+use Rattle.reader.proofs.Constructs.{set-added, set-mark, set-four, added-constructs}
 use Rattle.reader.proofs.Summing.{mark-three}
 
 -- what a child is lent: a branch has no mark yet
@@ -30,9 +30,8 @@ child-lent xs x long i marked e = set-mark xs x long ∙ ap (markAs (asideIs xs)
 pub added-still : (xs : List ℕ) (mark : ℕ) → length xs ≡ 4 → asideIs xs .added ≤ valueCap → asideIs (set xs 2 mark) .added ≤ valueCap
 added-still xs mark long h = aside-small (set-mark xs mark long) h
 
-pub end-countable : (xs : List ℕ) (mark x valued : ℕ) → length xs ≡ 4 → Countable (asideIs xs) valued → Countable (asideIs (set (set xs 2 mark) 1 x)) valued
-end-countable xs mark x valued long h =
-    added-countable (set xs 2 mark) x valued (set-four xs mark long 2) (subst (λ a. Countable a valued) (sym (set-mark xs mark long)) h)
+pub end-constructs : (xs : List ℕ) (mark x : ℕ) → length xs ≡ 4 → asideIs (set (set xs 2 mark) 1 x) .constructs ≡ asideIs xs .constructs
+end-constructs xs mark x long = added-constructs (set xs 2 mark) x (set-four xs mark long 2) ∙ ap (λ a. a .constructs) (set-mark xs mark long)
 
 pub end-told : (xs : List ℕ) (mark x more : ℕ) → length xs ≡ 4 → x ≡ min valueCap (asideIs (set xs 2 mark) .added + more) →
     asideIs (set (set xs 2 mark) 1 x) ≡ addedAs (markAs (asideIs xs) mark) (min valueCap (asideIs xs .added + more))

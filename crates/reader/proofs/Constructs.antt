@@ -14,7 +14,7 @@ use Rattle.records.specs.declared.Found.the-variants as found
 use Rattle.records.proofs.Founds.{Past, Ranged, ranged}
 use Rattle.reader.specs.declared.Parsed as code
 use Rattle.reader.specs.declared.Parsed.the-variants as parsed
-use Rattle.reader.specs.Tallies.{Aside, asideIs, overAs, addedAs, markAs, constructsAs, asideOf, asideOpened, valueTold, asideTold, Countable, valueCap, Parsed, Done, Refused, share, Told, Valued, Tells, a-value, a-refusal}
+use Rattle.reader.specs.Tallies.{Aside, asideIs, overAs, addedAs, markAs, constructsAs, asideOf, asideOpened, valueTold, asideTold, valueCap, Parsed, Done, Refused, share, Told, Valued, Tells, a-value, a-refusal}
 use Rattle.reader.specs.Reader.{ChildReader, ownedOf, foundAt, constructOf, Within}
 use Rattle.reader.proofs.Laws.{pick-most}
 use Rattle.reader.proofs.Tells.{aside-none}
@@ -44,9 +44,9 @@ module _ (xs : List ℕ) (x : ℕ) (long : length xs ≡ 4) where
   pub set-four : (i : ℕ) → length (set xs i x) ≡ 4
   set-four i = length-set xs i x ∙ long
 
--- so many constructs more can be counted, whatever is added
-pub added-countable : (xs : List ℕ) (x valued : ℕ) → length xs ≡ 4 → Countable (asideIs xs) valued → Countable (asideIs (set xs 1 x)) valued
-added-countable xs x valued long h = subst (λ a. Countable a valued) (sym (set-added xs x long)) h
+-- the constructs are as they were, whatever is added
+pub added-constructs : (xs : List ℕ) (x : ℕ) → length xs ≡ 4 → asideIs (set xs 1 x) .constructs ≡ asideIs xs .constructs
+added-constructs xs x long = ap (λ a. a .constructs) (set-added xs x long)
 
 -- What `opened` and `paid` write, and what is lent to the children of a counted loop, by what was written.
 pub written : (xs : List ℕ) {x y : ℕ} → length xs ≡ 4 → x ≡ y → asideIs (set xs 1 x) ≡ addedAs (asideIs xs) y

@@ -11,7 +11,7 @@ use Rattle.meaning.specs.Format.{pick}
 use Rattle.records.specs.declared.Cursor.{Cursor}
 use Rattle.reader.specs.declared.Parsed as code
 use Rattle.reader.specs.declared.Parsed.the-variants as parsed
-use Rattle.reader.specs.Tallies.{Aside, valueCap, isBranch, Share, Done, Refused, Tally, noTally, withOf, keptOf, asideOf, Countable, Counts, Held, Told, Valued}
+use Rattle.reader.specs.Tallies.{Aside, valueCap, isBranch, Share, Done, Refused, Tally, noTally, withOf, keptOf, asideOf, Counts, Held, Told, Valued}
 use Rattle.reader.specs.Reader.{Owner, ChildReader, childOf, listOf, listFrom, Within}
 use Rattle.reader.proofs.Laws.{Kept, held-more}
 use Rattle.reader.proofs.Tells.{over-kept, over-three}
@@ -135,12 +135,12 @@ module _ {read : ChildReader} {o : Owner} {s lent : List ℕ} {n base : ℕ} {fr
   pub added-small : Going read o s lent n base from first marks t held c i aside marked → aside .added ≤ valueCap
   added-small g = omega (arith, g .added)
 
-  -- there are at least 8 bytes for each construct that was valued
+  -- there are at least 8 bytes for each construct that was valued, so they are few
   pub valued-room : Going read o s lent n base from first marks t held c i aside marked → 8 * aside .constructs ≤ c .at
   valued-room g = omega (arith, g .constructs, g .past, g .before)
 
-  pub countable : Going read o s lent n base from first marks t held c i aside marked → length s ≤ 60000 → Countable aside i
-  countable g short = omega (arith, g .constructs, g .past, g .before, g .inside)
+  pub few-valued : Going read o s lent n base from first marks t held c i aside marked → length s ≤ 60000 → aside .constructs + i ≤ 7500
+  few-valued g short = omega (arith, g .constructs, g .past, g .before, g .inside)
 
   -- there is room for the marks that are held
   pub held-room : Going read o s lent n base from first marks t held c i aside marked → length s ≤ 8 * length lent → held ≤ length marks

@@ -6,12 +6,12 @@ use lib.ListN.{length, take}
 use native.Mathlib.Omega.{arith}
 use Rattle.records.specs.declared.Cursor.{Cursor}
 use Rattle.reader.specs.declared.Parsed.the-variants as parsed
-use Rattle.reader.specs.Tallies.{Aside, valueCap, Refused, counted, valueTold, asideTold, Countable, Valued}
+use Rattle.reader.specs.Tallies.{Aside, valueCap, Refused, counted, valueTold, asideTold, Valued}
 use Rattle.reader.specs.Reader.{ownerOf, ChildReader, listFrom, Within}
 use Rattle.reader.proofs.Laws.{no-loop}
 use Rattle.reader.proofs.Tells.{told-as}
 use Rattle.reader.proofs.Children.{timed-child}
-use Rattle.reader.proofs.Going.{countable, child-refused}
+use Rattle.reader.proofs.Going.{few-valued, child-refused}
 use Rattle.reader.proofs.Summing.{Summing, summing-first, summing-more, summing-ends}
 
 module _ (read : ChildReader) (time start standing product : ℕ) (s lent : List ℕ) (held : ℕ) (from : Cursor) (a : Aside)
@@ -33,8 +33,8 @@ module _ (read : ChildReader) (time start standing product : ℕ) (s lent : List
         let child = told-as (timed-child read start standing product 0 (held - held) from time) w in
         summing-more first after child {x = v} refl spare (no-loop refl) (omega arith) refl still long
 
-    pub timed-countable : length s ≤ 60000 → Countable b 1
-    timed-countable short = countable (all .going) short
+    pub timed-few : length s ≤ 60000 → b .constructs + 1 ≤ 7500
+    timed-few short = few-valued (all .going) short
 
     pub timed-ends : Valued (length s) start a (listFrom read (ownerOf 7 time 0 start standing product) 1 from) (parsed.Value (valueTold (v + time)) next)
         (asideTold b (v + time) 1 start)

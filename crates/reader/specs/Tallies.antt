@@ -159,9 +159,9 @@ abbrev pub asidePaid : Aside → ℕ → ℕ → Aside
 asidePaid a scope before = addedAs a (pick (eqb scope 1) before (a .added))
 
 -- The ranges that keep every sum in 64 bits.
--- so many constructs more, in a sheet of 60,000 bytes
+-- so many constructs more
 abbrev pub Countable : Aside → ℕ → Type 0
-Countable a valued = a .constructs + valued ≤ 7500
+Countable a valued = a .constructs + valued ≤ 18446744073709551615
 
 -- the most that a child adds; the most that all add
 abbrev pub heaviest : ℕ → ℕ

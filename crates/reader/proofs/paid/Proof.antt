@@ -3,7 +3,7 @@ use mathlib.Core.Path.{ap}
 use Prim.Native.Nat.{_+_}
 use native.Mathlib.Omega.{arith}
 use borrow.Author.Needs.{needs}
-use Rattle.reader.proofs.Constructs.{written, added-countable, set-four, paid-small, same-end}
+use Rattle.reader.proofs.Constructs.{written, added-constructs, set-four, paid-small, same-end}
 use Rattle.reader.proofs.paid.Statement.{statement}
 use Rattle.reader.proofs.paid.Tie as tie
 
@@ -29,7 +29,7 @@ ended-requires c κs =
     let start = c .before .before .before .before in
     let xs = start .args .aside .now in
     let x = c .before .before .choose .result in
-    (set-four xs x (start .pre .2) 1, added-countable xs x (start .args .valued) (start .pre .2) (start .pre .3))
+    (set-four xs x (start .pre .2) 1, omega (arith, added-constructs xs x (start .pre .2), start .pre .3))
 
 returns : tie.Need-returns
 returns c =

@@ -8,7 +8,7 @@ use Rattle.records.proofs.Good.{RoutineFine, routine-fine}
 use Rattle.reader.specs.Tallies.{asideIs, a-refusal}
 use Rattle.reader.specs.Reader.{recordOf, constructOf, Within}
 use Rattle.reader.proofs.Tells.{told-as, told-ended, valued-small, tells-value, tells-refusal}
-use Rattle.reader.proofs.Timed.{timed-refused, timed-countable, timed-ends}
+use Rattle.reader.proofs.Timed.{timed-refused, timed-few, timed-ends}
 use Rattle.reader.proofs.Under.{routine-refused, routine-good}
 use Rattle.records.proofs.Cursor.routine.Reads as cursor-routine
 use Rattle.reader.proofs.construct.Reads as construct
@@ -77,10 +77,10 @@ ended-requires c κs =
     let a = s .args in
     let p = s .pre in
     let r = good read .before .r .given .0 .0 in
-    let few = timed-countable (constructOf 24 (a .s .now) (a .bounds .now) (a .own)) (r .first) (a .c .at) 0 0 (a .s .now) (a .marks .now) 0 (r .next)
+    let few = timed-few (constructOf 24 (a .s .now) (a .bounds .now) (a .own)) (r .first) (a .c .at) 0 0 (a .s .now) (a .marks .now) 0 (r .next)
     (asideIs (a .aside .now)) (omega arith) (within (good read)) (p .added) (p .valued) (p .room) (read .construct .last .1 .1 .1 .1 .1 .0)
     (tells-value (read .construct .ensures .0) (told .before .v .given .1)) (read .construct .ensures .1 .0) (read .construct .ensures .1 .1 .0) (p .short) in
-    (read .construct .ensures .1 .1 .1, few)
+    (read .construct .ensures .1 .1 .1, omega (arith, few))
 
 returns : tie.Need-returns
 returns c =

@@ -11,8 +11,8 @@ use Rattle.reader.specs.Reader.{Owner, ownerOf, ChildReader, childOf, co
 use Rattle.reader.proofs.Tells.{told-as, told-from, told-ended, aside-small, aside-valued, valued-small, tells-value, tells-refusal, quickly-value, quickly-other}
 use Rattle.reader.proofs.Children.{alternative-child}
 use Rattle.reader.proofs.Constructs.{set-four}
-use Rattle.reader.proofs.Going.{added-small, valued-room, countable, held-room, still-below, still-long, child-refused}
-use Rattle.reader.proofs.Branches.{lentTo, child-lent, end-countable, end-told, Branching, branching-first, branching-next, branch-room, branch-mark, branching-small, branching-fits, added-still, branching-ends}
+use Rattle.reader.proofs.Going.{added-small, valued-room, few-valued, held-room, still-below, still-long, child-refused}
+use Rattle.reader.proofs.Branches.{lentTo, child-lent, end-constructs, end-told, Branching, branching-first, branching-next, branch-room, branch-mark, branching-small, branching-fits, added-still, branching-ends}
 use Rattle.reader.proofs.Depths.{alternative-at, construct-below}
 use Rattle.reader.proofs.construct.Reads as construct
 use Rattle.reader.proofs.alternative.Reads as alternative
@@ -381,7 +381,7 @@ module _ (t : ℕ) where
       let l = c .before .before .before .before .before .before .before .loop in
       let s = c .before .before .before .before .before .before .before .before .before .before .before .before .before in (
         set-four (set (l .aside) 2 (l .mark)) (c .before .at-most .result) (set-four (l .aside) (l .mark) (l .inv .1) 2) 1,
-        end-countable (l .aside) (l .mark) (c .before .at-most .result) (l .i) (l .inv .1) (countable (l .inv .0 .going) (s .pre .1 .0 .short)),
+        omega (arith, end-constructs (l .aside) (l .mark) (c .before .at-most .result) (l .inv .1), few-valued (l .inv .0 .going) (s .pre .1 .0 .short)),
       )
 
   pub same-length-2 : lts.Need-same-length-2 claims (alternative-at t) alternative.Post Inv-loop μ-loop

@@ -11,7 +11,7 @@ use Rattle.reader.specs.Reader.{Owner, ownerOf, ChildReader, childOf, co
 use Rattle.reader.proofs.Tells.{told-as, told-from, told-ended, aside-small, aside-valued, valued-small, tells-value, tells-refusal, quickly-value, quickly-other}
 use Rattle.reader.proofs.Children.{sequence-child}
 use Rattle.reader.proofs.Laws.{no-loop}
-use Rattle.reader.proofs.Going.{added-small, valued-room, countable, still-below, still-long, child-refused}
+use Rattle.reader.proofs.Going.{added-small, valued-room, few-valued, still-below, still-long, child-refused}
 use Rattle.reader.proofs.Summing.{Summing, summing-first, summing-fits, summing-more, summing-ends}
 use Rattle.reader.proofs.Depths.{sequence-at, construct-below}
 use Rattle.reader.proofs.construct.Reads as construct
@@ -226,7 +226,7 @@ module _ (t : ℕ) where
   pub ended-requires : lts.Need-ended-requires claims (sequence-at t) sequence.Post Inv-loop μ-loop
   ended-requires c κs =
       let l = c .before .before .loop in
-      (l .inv .1, countable (l .inv .0 .going) (c .before .before .before .before .before .before .before .pre .1 .0 .short))
+      (l .inv .1, omega (arith, few-valued (l .inv .0 .going) (c .before .before .before .before .before .before .before .pre .1 .0 .short)))
 
   pub same-length-2 : lts.Need-same-length-2 claims (sequence-at t) sequence.Post Inv-loop μ-loop
   same-length-2 c = c .before .before .before .loop .inv .0 .going .long

@@ -13,7 +13,7 @@ use Rattle.reader.specs.Reader.{Owner, ownerOf, ChildReader, childOf, co
 use Rattle.reader.proofs.Tells.{told-as, told-from, told-ended, aside-small, aside-valued, valued-small, tells-value, tells-refusal, quickly-value, quickly-other}
 use Rattle.reader.proofs.Children.{tail-child}
 use Rattle.reader.proofs.Constructs.{opened-lends, opened-small, opened-before}
-use Rattle.reader.proofs.Going.{added-small, valued-room, countable, still-below, still-long, child-refused}
+use Rattle.reader.proofs.Going.{added-small, valued-room, few-valued, still-below, still-long, child-refused}
 use Rattle.reader.proofs.Summing.{paid-is, Summing, summing-from, summing-fits, summing-small, summing-more, summing-ends}
 use Rattle.reader.proofs.Depths.{tail-loop-at, construct-below}
 use Rattle.reader.proofs.construct.Reads as construct
@@ -260,7 +260,7 @@ module _ (t : ℕ) where
     summing-small (l .inv .0) (omega arith),
     added-small (l .inv .0 .going),
     l .inv .1,
-    countable (l .inv .0 .going) (start (c .before .before .before) .pre .1 .0 .short),
+    omega (arith, few-valued (l .inv .0 .going) (start (c .before .before .before) .pre .1 .0 .short)),
   )
 
   pub same-length-2 : lts.Need-same-length-2 claims (tail-loop-at t) tail-loop.Post Inv-loop μ-loop

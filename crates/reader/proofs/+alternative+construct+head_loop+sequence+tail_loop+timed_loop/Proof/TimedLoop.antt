@@ -9,7 +9,7 @@ use Rattle.reader.specs.declared.Parsed.the-variants as parsed
 use Rattle.reader.specs.Tallies.{asideIs, Valued, a-refusal}
 use Rattle.reader.specs.Reader.{ChildReader, constructOf}
 use Rattle.reader.proofs.Tells.{told-from, told-ended, aside-small, aside-valued, valued-small, tells-value, tells-refusal, quickly-value, quickly-other}
-use Rattle.reader.proofs.Timed.{timed-refused, timed-countable, timed-ends}
+use Rattle.reader.proofs.Timed.{timed-refused, timed-few, timed-ends}
 use Rattle.reader.proofs.Depths.{timed-loop-at, construct-below}
 use Rattle.reader.proofs.construct.Reads as construct
 use Rattle.reader.proofs.timed_loop.Reads as timed-loop
@@ -77,9 +77,9 @@ module _ (t : ℕ) where
       let s = starting (once' .before .before .before) in
       let a = s .args in
       let p = s .pre .1 in
-      let few = timed-countable (read s) (a .time) (a .start) (a .standing) (a .product) (a .s .now) (a .marks .now) (a .held) (a .c) (asideIs (a .aside .now))
+      let few = timed-few (read s) (a .time) (a .start) (a .standing) (a .product) (a .s .now) (a .marks .now) (a .held) (a .c) (asideIs (a .aside .now))
       (p .0 .kept) (p .1 .0) (p .0 .added) (p .0 .valued) (p .0 .room) (a .marks .now) (once once') refl refl (p .0 .short) in
-      (once' .before .before .before .at-once .ensures .1, few)
+      (once' .before .before .before .at-once .ensures .1, omega (arith, few))
 
   pub returns : lts.Need-returns claims (timed-loop-at t) timed-loop.Post
   returns c =
@@ -128,10 +128,10 @@ module _ (t : ℕ) where
       let s = lending built in
       let a = s .args in
       let p = s .pre .1 in
-      let few = timed-countable (read s) (a .time) (a .start) (a .standing) (a .product) (a .s .now) (a .marks .now) (a .held) (a .c) (asideIs (a .aside .now))
+      let few = timed-few (read s) (a .time) (a .start) (a .standing) (a .product) (a .s .now) (a .marks .now) (a .held) (a .c) (asideIs (a .aside .now))
       (p .0 .kept) (p .1 .0) (p .0 .added) (p .0 .valued) (p .0 .room) (built .construct .last .1 .1 .1 .1 .1 .0) (read-by built (told .before .v2 .given .1))
       (built .construct .ensures .1 .0) (built .construct .ensures .1 .1 .0) (p .0 .short) in
-      (built .construct .ensures .1 .1 .1, few)
+      (built .construct .ensures .1 .1 .1, omega (arith, few))
 
   pub same-length : lts.Need-same-length claims (timed-loop-at t) timed-loop.Post
   same-length c = c .before .before .before .before .before .construct .ensures .1 .1 .0
