@@ -80,7 +80,7 @@ ended-requires c κs =
     let few = timed-few (constructOf 24 (a .s .now) (a .bounds .now) (a .own)) (r .first) (a .c .at) 0 0 (a .s .now) (a .marks .now) 0 (r .next)
     (asideIs (a .aside .now)) (omega arith) (within (good read)) (p .added) (p .valued) (p .room) (read .construct .last .1 .1 .1 .1 .1 .0)
     (tells-value (read .construct .ensures .0) (told .before .v .given .1)) (read .construct .ensures .1 .0) (read .construct .ensures .1 .1 .0) (p .short) in
-    (read .construct .ensures .1 .1 .1, omega (arith, few))
+    (read .construct .ensures .1 .1 .1, omega (arith, few, p .few))
 
 returns : tie.Need-returns
 returns c =
