@@ -292,7 +292,13 @@ fn paid(
 {
     let added = aside[ADDED];
     aside[ADDED] = choose(scope == 1, before, added);
-    ended(sum + choose(scope == 1, added, 0), valued, aside, start, next)
+    ended(
+        sum + choose(scope == 1, added, 0),
+        valued,
+        aside,
+        start,
+        next,
+    )
 }
 
 // One construct, with the list that it owns. marks keeps the marked branches of the alternatives that are open, so many of them.
