@@ -1,4 +1,4 @@
-/* Times the archive and the plain C against each other, and compares their answers.
+/* Times the archive and the plain C against each other, and compares their answers and counts.
  *
  *     bench --times ROUNDS                          a line for each shape and size: shape size bytes, then ns per call: least and median of
  *                                                   plain, least and median of archive. With 0 rounds only the sheets are checked
@@ -25,25 +25,39 @@ const struct named calculators[] = {{"plain", plain_answer}, {"archive", maxt_an
 static const size_t sizes[] = {600, 6000, 60000};
 
 struct outcome {
-    uint64_t answer[3], table[TABLE];
+    uint64_t answer[3], table[TABLE], work;
 };
+
+static struct outcome before(void)
+{
+    struct outcome o = {.answer = {77, 77, 77}, .work = 77};
+
+    for (size_t i = 0; i < TABLE; i++)
+        o.table[i] = UINT64_C(0xabcdef0123456789) + i;
+    return o;
+}
 
 static struct outcome outcome(calculator *c, const uint8_t *sheet, size_t length, size_t places)
 {
-    struct outcome o;
+    struct outcome o = before();
 
-    for (size_t i = 0; i < 3; i++)
-        o.answer[i] = 77;
-    for (size_t i = 0; i < TABLE; i++)
-        o.table[i] = UINT64_C(0xabcdef0123456789) + i;
     c(sheet, length, o.table, places, o.answer);
+    return o;
+}
+
+static struct outcome counted(counter *c, const uint8_t *sheet, size_t length, size_t places)
+{
+    struct outcome o = before();
+
+    o.work = c(sheet, length, o.table, places, o.answer);
     return o;
 }
 
 static int is_same(const uint8_t *sheet, size_t length, size_t places)
 {
     struct outcome a = outcome(plain_answer, sheet, length, places), b = outcome(maxt_answer, sheet, length, places);
-    return memcmp(&a, &b, sizeof a) == 0;
+    struct outcome c = counted(plain_work, sheet, length, places), d = counted(maxt_work, sheet, length, places);
+    return memcmp(&a, &b, sizeof a) == 0 && memcmp(&c, &d, sizeof c) == 0;
 }
 
 /* ---- times */
@@ -248,7 +262,7 @@ static int compare_files(char **names)
             compare(*names, "cut", sheet, n, PLACES);
         compare_changed(*names, sheet, length, length < 3000 ? 3000 : 100);
     }
-    printf("compared: %u files, %llu sheets with their beginnings and changes, %llu answers differ; accepted %llu; refused", files, compared, differ, refused[0]);
+    printf("compared: %u files, %llu sheets with their beginnings and changes, %llu answers or counts differ; accepted %llu; refused", files, compared, differ, refused[0]);
     for (int i = 1; i < 13; i++)
         printf(" %d:%llu", i, refused[i]);
     printf("\n");

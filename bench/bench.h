@@ -5,10 +5,12 @@
 #include "plain.h"
 #include "sheets.h"
 
-/* The archive's entry, as target/staticlib/libboundary.a has it. */
+/* The archive's entries, as target/staticlib/libboundary.a has them: the one that is timed, and the one that hands the count over. */
 void maxt_answer(const uint8_t *sheet, size_t sheet_length, uint64_t *table, size_t table_length, uint64_t answer[3]);
+uint64_t maxt_work(const uint8_t *sheet, size_t sheet_length, uint64_t *table, size_t table_length, uint64_t answer[3]);
 
 typedef void calculator(const uint8_t *, size_t, uint64_t *, size_t, uint64_t *);
+typedef uint64_t counter(const uint8_t *, size_t, uint64_t *, size_t, uint64_t *);
 
 struct named {
     const char *name;

@@ -37,6 +37,7 @@ struct reader {
     struct marked *open; /* past the marked branches of the alternatives that are being read */
     uint64_t big;        /* where the first record ended with too large a value; 0 is none, since the sheet record stands there */
     uint64_t number, place;
+    uint64_t work; /* constructs: each is counted by the record that owns it */
     uint64_t done; /* routines read */
     uint64_t bounds[PLACES];
     struct marked marks[MARKED_MOST];
@@ -107,6 +108,7 @@ static struct part sequence(struct reader *r, const uint8_t *start, unsigned lef
 
     if (n > 1000 || left == 0)
         return refuse(r, start, n > 1000 ? BAD_FIELD : TOO_DEEP);
+    r->work += n;
     standing = standing == BRANCH ? FIRST_OF_BRANCH : standing == LAST_BRANCH ? FIRST_OF_LAST : rest;
     for (; n != 0; n--, standing = rest) {
         if (!is_read(r, &c, left - 1, standing))
@@ -137,6 +139,7 @@ static struct part alternative(struct reader *r, const uint8_t *start, unsigned 
 
     if (n < 2 || n > 256 || left == 0)
         return refuse(r, start, n < 2 || n > 256 ? BAD_FIELD : TOO_DEEP);
+    r->work += 1 + n;
     if (!is_read(r, &c, left - 1, OUTSIDE))
         return c;
     condition = c.value;
@@ -185,6 +188,7 @@ static struct part head_loop(struct reader *r, const uint8_t *start, unsigned le
     count = word(start + 4);
     if (count > HIGHEST || word(start + 8) > 1 || left == 0)
         return refuse(r, start, count > HIGHEST || word(start + 8) > 1 ? BAD_FIELD : TOO_DEEP);
+    r->work += 4;
     c.next = start + 12;
     if (!is_read(r, &c, left - 1, OUTSIDE))
         return c;
@@ -210,6 +214,7 @@ static struct part tail_loop(struct reader *r, const uint8_t *start, unsigned le
     count = word(start + 4);
     if (count - 1 >= HIGHEST || word(start + 8) > 1 || left == 0)
         return refuse(r, start, count - 1 >= HIGHEST || word(start + 8) > 1 ? BAD_FIELD : TOO_DEEP);
+    r->work += 3;
     c.next = start + 12;
     if (!is_body_read(r, &c, left - 1, standing, count, word(start + 8), &value))
         return c;
@@ -228,6 +233,7 @@ static struct part timed_loop(struct reader *r, const uint8_t *start, unsigned l
 
     if (left == 0)
         return refuse(r, start, TOO_DEEP);
+    r->work++;
     if (!is_read(r, &c, left - 1, OUTSIDE))
         return c;
     return ended(r, start, c.next, word(start + 4) + c.value);
@@ -297,6 +303,7 @@ static struct part routine(struct reader *r, const uint8_t *start)
 
     if (number != 0)
         return refuse(r, start, number);
+    r->work++;
     c.next = start + 8;
     if (!is_read(r, &c, DEEPEST, OUTSIDE))
         return c;
@@ -326,7 +333,7 @@ static struct part routines(struct reader *r)
     return r->big != 0 ? refuse(r, r->sheet + r->big, TOO_BIG) : c;
 }
 
-void plain_answer(const uint8_t *sheet, size_t sheet_length, uint64_t *table, size_t table_length, uint64_t answer[3])
+uint64_t plain_work(const uint8_t *sheet, size_t sheet_length, uint64_t *table, size_t table_length, uint64_t answer[3])
 {
     struct reader r; /* not cleared: its bounds and marks are written before they are read */
     struct part c = {NULL, 0};
@@ -334,7 +341,7 @@ void plain_answer(const uint8_t *sheet, size_t sheet_length, uint64_t *table, si
     r.sheet = sheet;
     r.end = sheet + sheet_length;
     r.open = r.marks;
-    r.passes = r.added = r.big = r.number = r.place = r.done = 0;
+    r.passes = r.added = r.big = r.number = r.place = r.work = r.done = 0;
     if (table_length < PLACES)
         r.number = NO_ROOM;
     else if (sheet_length > LONGEST)
@@ -346,4 +353,10 @@ void plain_answer(const uint8_t *sheet, size_t sheet_length, uint64_t *table, si
     answer[0] = r.number;
     answer[1] = r.place;
     answer[2] = c.value;
+    return c.next != NULL ? r.work : 0;
+}
+
+void plain_answer(const uint8_t *sheet, size_t sheet_length, uint64_t *table, size_t table_length, uint64_t answer[3])
+{
+    plain_work(sheet, sheet_length, table, table_length, answer);
 }

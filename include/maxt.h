@@ -76,6 +76,15 @@ void maxt_routine(const uint8_t *sheet, size_t sheet_length, uint64_t number, ui
 void maxt_margins(const uint8_t *sheet, size_t sheet_length, uint64_t *table, size_t table_length, const uint64_t *deadlines,
                   size_t deadlines_length, int64_t *margins, size_t margins_length, uint64_t answer[3]);
 
+/* Answers a sheet as maxt_answer does, and returns how much work it was: how many constructs were valued.
+ *
+ * returned: on acceptance the number of construct records, which are those of kinds 2 to 9; at most (sheet_length - 12) / 8. A call counts one,
+ *           whatever its routine holds. The sheet's record and the routines' records do not count. 0 of a refusal.
+ * answer, table: as maxt_answer has them.
+ * The sheet is unchanged.
+ */
+uint64_t maxt_work(const uint8_t *sheet, size_t sheet_length, uint64_t *table, size_t table_length, uint64_t answer[3]);
+
 #ifdef __cplusplus
 }
 #endif

@@ -3,6 +3,7 @@
  *     example [SHEET]                         without a name it reads standard input
  *     example --deadlines D1,D2,.. [SHEET]    and behind each bound the routine's margin, by document 02's request L1;
  *                                             routines behind the last deadline given have 0
+ *     example --work [SHEET]                  and in a last line the number of constructs valued, by request L2
  *
  *     gcc -O2 -Iinclude tests/outside/example.c target/staticlib/libboundary.a -o example
  */
@@ -32,18 +33,22 @@ static void print_bounds(const uint8_t *sheet, size_t length, const uint64_t *ta
     printf("bound %" PRIu64 "\n", bound);
 }
 
-/* deadlines is NULL where none were given, and otherwise MAXT_ROUTINES long. */
-static void print_answer(const uint8_t *sheet, size_t length, const uint64_t *deadlines) {
-    uint64_t table[MAXT_ROUTINES] = {0}, answer[3];
+/* deadlines is NULL where none were given, and otherwise MAXT_ROUTINES long; they and the work are not asked for together. */
+static void print_answer(const uint8_t *sheet, size_t length, const uint64_t *deadlines, int with_work) {
+    uint64_t table[MAXT_ROUTINES] = {0}, answer[3], work = 0;
     int64_t room[MAXT_ROUTINES] = {0}, *margins = deadlines != NULL ? room : NULL;
     if (margins != NULL)
         maxt_margins(sheet, length, table, MAXT_ROUTINES, deadlines, MAXT_ROUTINES, margins, MAXT_ROUTINES, answer);
+    else if (with_work)
+        work = maxt_work(sheet, length, table, MAXT_ROUTINES, answer);
     else
         maxt_answer(sheet, length, table, MAXT_ROUTINES, answer);
     if (answer[0] == MAXT_ACCEPTED)
         print_bounds(sheet, length, table, margins, answer[2]);
     else
         printf("refused %" PRIu64 " at %" PRIu64 "\n", answer[0], answer[1]);
+    if (with_work)
+        printf("work %" PRIu64 "\n", work);
 }
 
 /* 0 if the text is not one to MAXT_ROUTINES numbers of 64 bits with commas between them. */
@@ -85,13 +90,14 @@ int main(int words, char **word) {
     uint64_t deadlines[MAXT_ROUTINES] = {0};
     size_t length;
     int with_deadlines = words > 1 && strcmp(word[1], "--deadlines") == 0;
+    int with_work = words > 1 && strcmp(word[1], "--work") == 0;
     if (with_deadlines && (words < 3 || !read_deadlines(word[2], deadlines))) {
         fprintf(stderr, "--deadlines takes 1 to %d numbers with commas between them\n", MAXT_ROUTINES);
         return 2;
     }
-    int name = with_deadlines ? 3 : 1;
+    int name = with_deadlines ? 3 : with_work ? 2 : 1;
     if (!read_sheet(name < words ? word[name] : NULL, sheet, &length))
         return 2;
-    print_answer(sheet, length, with_deadlines ? deadlines : NULL);
+    print_answer(sheet, length, with_deadlines ? deadlines : NULL, with_work);
     return fflush(stdout) == 0 ? 0 : 2;
 }

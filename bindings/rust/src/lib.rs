@@ -1,7 +1,9 @@
-//! The bound of a timing sheet and the margins of its routines, worked out by the proved archive `libboundary.a`.
+//! The bound of a timing sheet, the margins of its routines and its count of constructs, worked out by the proved archive
+//! `libboundary.a`.
 //!
 //! Document 01 says what a sheet is, what its bound is and when it is refused; document 02's request L1 says what a
-//! margin is. This crate adds no rule of its own: it hands slices to the archive and gives its answers a type.
+//! margin is, L2 what is counted. This crate adds no rule of its own: it hands slices to the archive and gives its answers
+//! a type.
 
 use core::ops::Range;
 
@@ -117,6 +119,13 @@ mod archive {
             margins_length: usize,
             answer: *mut [u64; 3],
         );
+        pub fn maxt_work(
+            sheet: *const u8,
+            sheet_length: usize,
+            table: *mut u64,
+            table_length: usize,
+            answer: *mut [u64; 3],
+        ) -> u64;
     }
 }
 
@@ -187,6 +196,24 @@ pub fn margin_numbers(sheet: &[u8], table: &mut [u64], deadlines: &[u64], margin
         );
     }
     answer
+}
+
+/// [`answer`], and how much work the sheet was: how many constructs were valued.
+///
+/// On acceptance it is the number of construct records, which are those of kinds 2 to 9; at most `(sheet.len() - 12) / 8`.
+/// A call counts one, whatever its routine holds. The sheet's record and the routines' records do not count. Of a refusal
+/// it is 0.
+pub fn work(sheet: &[u8], table: &mut [u64]) -> (Answer, u64) {
+    let (numbers, constructs) = work_numbers(sheet, table);
+    (Answer::of_numbers(numbers), constructs)
+}
+
+/// [`work`] with the answer as the archive gives it: number (0 is acceptance), place and bound.
+pub fn work_numbers(sheet: &[u8], table: &mut [u64]) -> ([u64; 3], u64) {
+    let mut answer = [0; 3];
+    // SAFETY: as `archive` says; the table and the array of three are written.
+    let constructs = unsafe { archive::maxt_work(sheet.as_ptr(), sheet.len(), table.as_mut_ptr(), table.len(), &mut answer) };
+    (answer, constructs)
 }
 
 /// Where the records of a routine lie in an accepted sheet: from its routine record to the end of its body.

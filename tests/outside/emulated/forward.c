@@ -1,13 +1,15 @@
-/* The archive's three entries for a machine that is not x86-64. Each call goes to the program of serve.c, which runs under the
+/* The archive's four entries for a machine that is not x86-64. Each call goes to the program of serve.c, which runs under the
  * toolchain's emulator and calls the archive itself. Nothing is worked out here.
  *
  * A call is five numbers: the entry, the sheet's length and three of the entry's own, 0 where it has fewer; then the sheet and
- * the lists that are lent. What comes back are the numbers that the entry stores and the lists that it may write:
+ * the lists that are lent. What comes back are the number that the entry returns, if it does, the numbers that it stores and the
+ * lists that it may write:
  *
  *     entry           numbers of its own                       lent                         back
  *     0 maxt_answer   the table's length                       table                        answer, table
  *     1 maxt_routine  the routine's number                                                  part
  *     2 maxt_margins  lengths of table, deadlines, margins     table, deadlines, margins    answer, table, margins
+ *     3 maxt_work     the table's length                       table                        what it returned, answer, table
  *
  * Built with the four paths EMULATOR, LOADER, LIBRARIES and SERVE as texts.
  */
@@ -94,4 +96,14 @@ void maxt_margins(const uint8_t *sheet, size_t sheet_length, uint64_t *table, si
     take(answer, 3 * sizeof *answer);
     take(table, table_length * sizeof *table);
     take(margins, margins_length * sizeof *margins);
+}
+
+uint64_t maxt_work(const uint8_t *sheet, size_t sheet_length, uint64_t *table, size_t table_length, uint64_t answer[3]) {
+    uint64_t work;
+    call((uint64_t[5]){3, sheet_length, table_length}, sheet);
+    give(table, table_length * sizeof *table);
+    take(&work, sizeof work);
+    take(answer, 3 * sizeof *answer);
+    take(table, table_length * sizeof *table);
+    return work;
 }

@@ -104,8 +104,18 @@ static void margins_call(const uint8_t *sheet, const uint64_t call[5]) {
     give_list(&lent_margins);
 }
 
+static void work_call(const uint8_t *sheet, const uint64_t call[5]) {
+    static struct list lent;
+    uint64_t answer[3];
+    uint64_t *table = take_list(&lent, call[2]);
+    uint64_t work = maxt_work(sheet, call[1], table, call[2], answer);
+    give(&work, sizeof work);
+    give(answer, sizeof answer);
+    give_list(&lent);
+}
+
 int main(void) {
-    static void (*const entries[])(const uint8_t *, const uint64_t *) = {answer_call, routine_call, margins_call};
+    static void (*const entries[])(const uint8_t *, const uint64_t *) = {answer_call, routine_call, margins_call, work_call};
     uint8_t *sheet = NULL;
     uint64_t call[5];
     while (take(call, sizeof call)) {

@@ -12,10 +12,11 @@ const MOST_ROUTINES: u32 = 64;
 /// Places before and behind a lent list that nobody may touch, and what they hold.
 const GUARDS: usize = 2;
 const GUARD: u32 = 0x0DD0_CAFE;
-/// Sheets longer than this take long, and are asked for routine parts and margins less often.
+/// Sheets longer than this take long, and are asked for routine parts, margins and counts less often.
 const LONG: usize = 4_000;
 
-/// A sheet, the table as it is lent, the routines that are asked for, and what is lent for margins if these are asked for.
+/// A sheet, the table as it is lent, the routines that are asked for, and what is lent for margins and for the count of
+/// constructs if these are asked for.
 pub struct Question {
     pub sheet: Sheet,
     /// By no wrong rule.
@@ -23,6 +24,7 @@ pub struct Question {
     pub table: Vec<u64>,
     pub routines: Vec<u64>,
     pub lists: Option<Lists>,
+    pub work_table: Option<Vec<u64>>,
 }
 
 #[derive(PartialEq, Eq)]
@@ -32,12 +34,20 @@ pub struct Reply {
     pub table: Vec<u64>,
     pub parts: Vec<Range<usize>>,
     pub margins: Option<MarginsReply>,
+    pub work: Option<WorkReply>,
 }
 
 #[derive(PartialEq, Eq)]
 pub struct MarginsReply {
     pub answer: [u64; 3],
     pub lists: Lists,
+}
+
+#[derive(PartialEq, Eq)]
+pub struct WorkReply {
+    pub constructs: u64,
+    pub answer: [u64; 3],
+    pub table: Vec<u64>,
 }
 
 impl Question {
@@ -50,9 +60,12 @@ impl Question {
         let parts_asked = random.below(if length > LONG { 40 } else { 4 }) == 0;
         let routines = if parts_asked { routine_numbers(&sheet.bytes, &mut random) } else { Vec::new() };
         // What is TOO LONG takes no time, and has to meet a short list often enough.
-        let margins_asked = random.below(if (LONG + 1..=LONGEST).contains(&length) { 10 } else { 2 }) == 0;
+        let one_in = if (LONG + 1..=LONGEST).contains(&length) { 10 } else { 2 };
+        let margins_asked = random.below(one_in) == 0;
         let lists = margins_asked.then(|| Lists::random(&calculation, &mut random));
-        Question { sheet, calculation, table, routines, lists }
+        let work_asked = random.below(one_in) == 0;
+        let work_table = work_asked.then(|| filled(&mut random));
+        Question { sheet, calculation, table, routines, lists, work_table }
     }
 
     pub fn put_to_archive(&self) -> Reply {
@@ -61,7 +74,8 @@ impl Question {
         let answer = maxt::numbers(sheet, table.lent());
         let parts = self.routines.iter().map(|&number| maxt::routine(sheet, number)).collect();
         let margins = self.lists.as_ref().map(|lists| margins_of_archive(sheet, lists));
-        Reply { answer, table: table.back(), parts, margins }
+        let work = self.work_table.as_ref().map(|table| work_of_archive(sheet, table));
+        Reply { answer, table: table.back(), parts, margins, work }
     }
 
     pub fn put_to(&self, calculation: &Calculation) -> Reply {
@@ -72,7 +86,16 @@ impl Question {
             let answer = numbers(calculation.margins(&mut lists));
             MarginsReply { answer, lists }
         });
-        Reply { answer, table, parts, margins }
+        let work = self.work_table.clone().map(|mut table| {
+            let (answer, constructs) = calculation.work(&mut table);
+            WorkReply { constructs, answer: numbers(answer), table }
+        });
+        Reply { answer, table, parts, margins, work }
+    }
+
+    /// Whether a count is one that request L2 rules out, by the records that were read and by the bytes.
+    pub fn is_miscounted(&self, reply: &Reply) -> bool {
+        reply.work.as_ref().is_some_and(|work| !self.calculation.could_count(work.constructs, work.answer[0]))
     }
 
     pub fn calculated(&self, wrong: Wrong) -> Calculation {
@@ -90,6 +113,12 @@ fn margins_of_archive(sheet: &[u8], lists: &Lists) -> MarginsReply {
     let mut margins = Guarded::around(&lists.margins);
     let answer = maxt::margin_numbers(sheet, table.lent(), deadlines.lent(), margins.lent());
     MarginsReply { answer, lists: Lists { table: table.back(), deadlines: deadlines.back(), margins: margins.back() } }
+}
+
+fn work_of_archive(sheet: &[u8], table: &[u64]) -> WorkReply {
+    let mut table = Guarded::around(table);
+    let (answer, constructs) = maxt::work_numbers(sheet, table.lent());
+    WorkReply { constructs, answer, table: table.back() }
 }
 
 /// A list between places that nobody may touch.

@@ -1,6 +1,6 @@
 //! A calculator for timing sheets, written from document 01 alone: the sheet is read into a tree, then the tree's
 //! records are worked out, then the answer is put together as section "What comes back" says. `margins.rs` adds request
-//! L1 of document 02.
+//! L1 of document 02, `work.rs` request L2.
 
 use std::ops::Range;
 
@@ -26,26 +26,35 @@ pub struct Calculation {
     pub routines: Vec<Routine>,
     /// Of a refused sheet only those worked out before.
     pub bounds: Vec<u64>,
+    /// Records of constructs; of a refused sheet only those read before.
+    pub construct_records: u64,
+    pub sheet_length: usize,
     refused: Option<Refused>,
-    sheet_length: usize,
     wrong: Option<Wrong>,
 }
 
 impl Calculation {
     pub fn of(sheet: &[u8], wrong: Option<Wrong>) -> Calculation {
-        let mut calculation =
-            Calculation { routines: Vec::new(), bounds: Vec::new(), refused: None, sheet_length: sheet.len(), wrong };
+        let mut calculation = Calculation {
+            routines: Vec::new(),
+            bounds: Vec::new(),
+            construct_records: 0,
+            sheet_length: sheet.len(),
+            refused: None,
+            wrong,
+        };
         if sheet.len() > LONGEST {
             calculation.refused = Some(Refused { number: TOO_LONG, place: 0 });
             return calculation;
         }
-        let Reading { routines, fault } = read(sheet, wrong);
+        let Reading { routines, fault, constructs } = read(sheet, wrong);
         // TOO BIG is given only for a sheet with no other fault.
         if fault.is_none() || calculation.is(Wrong::TooBigAtOnce) {
             (calculation.bounds, calculation.refused) = bounds(&routines, sheet.len(), wrong);
         }
         calculation.refused = calculation.refused.or(fault);
         calculation.routines = routines;
+        calculation.construct_records = constructs;
         calculation
     }
 

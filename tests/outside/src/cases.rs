@@ -1,19 +1,35 @@
-//! Document 01's own figures, cases a to n, and what document 02's request L1 says of case b, for the calculator alone.
+//! Document 01's own figures, cases a to n, with the number of their constructs by document 02's request L2, counted by hand
+//! from 01's notation; and what request L1 says of case b. For the calculator alone.
 
 use crate::calculator::{Answer, Calculation};
 use crate::lists::Lists;
 use crate::refusals::*;
 use crate::writer::Writer;
 
-fn outcome(organisation: u32, body: impl FnOnce(&mut Writer)) -> Result<Vec<u64>, Refused> {
+/// The answer and the number of constructs.
+fn worked(sheet: &[u8]) -> (Answer, u64) {
+    let mut table = [1; 64];
+    let calculation = Calculation::of(sheet, None);
+    let (answer, constructs) = calculation.work(&mut table);
+    assert_eq!(calculation.answer(&mut [1; 64]), answer);
+    assert!(calculation.could_count(constructs, answer.number));
+    assert_eq!(table[0], if answer.number == 0 { answer.bound } else { 1 });
+    assert!(table[1..].iter().all(|&place| place == 1));
+    (answer, constructs)
+}
+
+fn of_body(organisation: u32, body: impl FnOnce(&mut Writer)) -> (Answer, u64) {
     let mut writer = Writer::sheet();
     writer.routine(organisation);
     body(&mut writer);
-    Calculation::of(&writer.finish(1).bytes, None).outcome().map(<[u64]>::to_vec)
+    worked(&writer.finish(1).bytes)
 }
 
-fn bound(organisation: u32, body: impl FnOnce(&mut Writer)) -> u64 {
-    outcome(organisation, body).expect("an accepted sheet")[0]
+/// The bound and the number of constructs.
+fn accepted(organisation: u32, body: impl FnOnce(&mut Writer)) -> (u64, u64) {
+    let (answer, constructs) = of_body(organisation, body);
+    assert_eq!((answer.number, answer.place), (0, 0));
+    (answer.bound, constructs)
 }
 
 fn primitives(writer: &mut Writer, costs: &[u32]) {
@@ -22,31 +38,31 @@ fn primitives(writer: &mut Writer, costs: &[u32]) {
 
 #[test]
 fn cases_a_to_g() {
-    assert_eq!(bound(0, |w| w.sequence(0)), 0);
-    assert_eq!(bound(5, |w| w.primitive(7)), 12);
+    assert_eq!(accepted(0, |w| w.sequence(0)), (0, 1));
+    assert_eq!(accepted(5, |w| w.primitive(7)), (12, 1));
     let alternative = |w: &mut Writer| {
         w.alternative(2);
         primitives(w, &[2, 9]);
         w.sequence(0);
     };
-    assert_eq!(bound(0, alternative), 11);
+    assert_eq!(accepted(0, alternative), (11, 4));
     for (count, value) in [(3, 28), (0, 7)] {
         let head_loop = |w: &mut Writer| {
             w.head_loop(count, false);
             primitives(w, &[1, 2, 5, 4]);
         };
-        assert_eq!(bound(0, head_loop), value);
+        assert_eq!(accepted(0, head_loop), (value, 5));
     }
     let tail_loop = |w: &mut Writer| {
         w.tail_loop(3, false);
         primitives(w, &[5, 2, 4]);
     };
-    assert_eq!(bound(0, tail_loop), 25);
+    assert_eq!(accepted(0, tail_loop), (25, 4));
     let timed_loop = |w: &mut Writer| {
         w.timed_loop(100);
         w.primitive(6);
     };
-    assert_eq!(bound(0, timed_loop), 106);
+    assert_eq!(accepted(0, timed_loop), (106, 2));
 }
 
 #[test]
@@ -61,7 +77,7 @@ fn cases_h_to_k() {
             w.marker(limit, 1);
             primitives(w, &[cost, 5, 0]);
         };
-        assert_eq!(bound(0, scope), value);
+        assert_eq!(accepted(0, scope), (value, 10));
     }
 }
 
@@ -80,7 +96,7 @@ fn case_l() {
         w.sequence(0);
         w.sequence(0);
     };
-    assert_eq!(bound(0, two_markers), 130);
+    assert_eq!(accepted(0, two_markers), (130, 13));
 }
 
 #[test]
@@ -94,16 +110,44 @@ fn cases_m_and_n() {
             w.primitive(cost);
         }
     };
-    assert_eq!(bound(0, near_limit(255)), 1_099_511_627_775);
-    assert_eq!(outcome(0, near_limit(256)), Err(Refused { number: TOO_BIG, place: 20 }));
+    assert_eq!(accepted(0, near_limit(255)), (1_099_511_627_775, 6));
+    assert_eq!(of_body(0, near_limit(256)), (Answer { number: TOO_BIG, place: 20, bound: 0 }, 0));
 }
 
 #[test]
 fn refusals_that_01_prints() {
-    let refused = |sheet: &[u8]| Calculation::of(sheet, None).outcome().err();
-    assert_eq!(refused(&case_b()[..20]), Some(Refused { number: CUT, place: 20 }));
-    assert_eq!(refused(&[]), Some(Refused { number: CUT, place: 0 }));
-    assert_eq!(refused(&[0; 60_001]), Some(Refused { number: TOO_LONG, place: 0 }));
+    let refused = |sheet: &[u8], number, place| assert_eq!(worked(sheet), (Answer { number, place, bound: 0 }, 0));
+    refused(&case_b()[..20], CUT, 20);
+    refused(&[], CUT, 0);
+    refused(&[0; 60_001], TOO_LONG, 0);
+}
+
+/// P1; S[C1, C1]; S[C2, S[]]: 1, 3 and 3 constructs, whatever the called routines hold.
+#[test]
+fn a_call_counts_one() {
+    let mut writer = Writer::sheet();
+    writer.routine(0);
+    writer.primitive(1);
+    writer.routine(0);
+    writer.sequence(2);
+    writer.call(1);
+    writer.call(1);
+    writer.routine(0);
+    writer.sequence(2);
+    writer.call(2);
+    writer.sequence(0);
+    let calculation = Calculation::of(&writer.finish(3).bytes, None);
+    let mut table = [1; 64];
+    assert_eq!(calculation.work(&mut table), (Answer { number: 0, place: 0, bound: 2 }, 7));
+    assert_eq!(table[..4], [1, 2, 2, 1]);
+    assert_eq!(calculation.work(&mut [1; 63]), (Answer { number: NO_ROOM, place: 0, bound: 0 }, 0));
+}
+
+#[test]
+fn counts_that_l2_rules_out() {
+    let calculation = Calculation::of(&case_b(), None);
+    assert!(calculation.could_count(1, 0) && calculation.could_count(0, NO_ROOM));
+    assert!(!calculation.could_count(0, 0) && !calculation.could_count(2, 0) && !calculation.could_count(1, NO_ROOM));
 }
 
 fn case_b() -> Vec<u8> {

@@ -3,7 +3,7 @@
 use std::fmt::Debug;
 use std::thread;
 
-use crate::asking::{MarginsReply, Question, Reply};
+use crate::asking::{MarginsReply, Question, Reply, WorkReply};
 use crate::counts::Counts;
 use crate::lists::Lists;
 use crate::refusals::NAMES;
@@ -29,7 +29,7 @@ pub fn all(first: u64, sheets: u64) -> bool {
         let question = Question::of_seed(seed);
         let (archive, calculated) = (question.put_to_archive(), question.put_to(&question.calculation));
         found.counts.add(&question, &calculated);
-        if archive != calculated {
+        if archive != calculated || question.is_miscounted(&archive) {
             found.differing.push(seed);
         }
     });
@@ -99,6 +99,9 @@ fn show(seed: u64) {
     if let Some(Lists { table, deadlines, margins }) = &question.lists {
         println!("    for margins: a table of {} places, {} margins, deadlines {deadlines:?}", table.len(), margins.len());
     }
+    if let Some(table) = &question.work_table {
+        println!("    for the count: a table of {} places", table.len());
+    }
     say("archive", &question, &question.put_to_archive());
     say("calculator", &question, &question.put_to(&question.calculation));
 }
@@ -114,6 +117,9 @@ fn say(who: &str, question: &Question, reply: &Reply) {
         println!("        with deadlines: {}; the table: {}", named(*answer), changes(&lent.table, &lists.table));
         println!("        the deadlines: {}", changes(&lent.deadlines, &lists.deadlines));
         println!("        the margins: {}", changes(&lent.margins, &lists.margins));
+    }
+    if let (Some(lent), Some(WorkReply { constructs, answer, table })) = (&question.work_table, &reply.work) {
+        println!("        with the count, {constructs}: {}; the table: {}", named(*answer), changes(lent, table));
     }
 }
 

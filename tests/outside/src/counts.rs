@@ -2,7 +2,7 @@
 
 use std::collections::HashSet;
 
-use crate::asking::{MarginsReply, Question, Reply};
+use crate::asking::{MarginsReply, Question, Reply, WorkReply};
 use crate::calculator::Calculation;
 use crate::refusals::{NAMES, TOO_BIG};
 use crate::sheets::Shape;
@@ -31,6 +31,8 @@ pub struct Counts {
     answers: Answers,
     with_deadlines: Answers,
     margins: Margins,
+    with_count: Answers,
+    work: Work,
     shapes: Vec<(u64, u64)>,
     sizes: [(u64, u64); SIZES.len()],
     damaged: u64,
@@ -52,6 +54,13 @@ struct Margins {
     late: u64,
     just_fit: u64,
     early: u64,
+}
+
+/// Over the sheets accepted with a count.
+#[derive(Default)]
+struct Work {
+    constructs: u64,
+    most: u64,
 }
 
 /// Over the accepted sheets.
@@ -86,6 +95,10 @@ impl Counts {
             self.with_deadlines.add(reply.answer);
             self.margins.add(reply, question.calculation.routines.len());
         }
+        if let Some(WorkReply { constructs, answer, .. }) = &calculated.work {
+            self.with_count.add(*answer);
+            self.work.merge(&Work { constructs: *constructs, most: *constructs });
+        }
         if accepted {
             self.largest.add(&question.calculation);
         }
@@ -99,6 +112,8 @@ impl Counts {
         self.answers.merge(other.answers);
         self.with_deadlines.merge(other.with_deadlines);
         self.margins.merge(&other.margins);
+        self.with_count.merge(other.with_count);
+        self.work.merge(&other.work);
         self.shapes.resize(Shape::ALL.len(), (0, 0));
         let pairs = self.shapes.iter_mut().zip(other.shapes).chain(self.sizes.iter_mut().zip(other.sizes));
         for (mine, others) in pairs {
@@ -114,6 +129,9 @@ impl Counts {
         println!("by answer with deadlines:");
         self.with_deadlines.print(&NAMES);
         self.margins.print();
+        println!("by answer with the count of constructs:");
+        self.with_count.print(NAMES_OF_01);
+        self.work.print();
         println!("by shape:");
         for (shape, &(all, accepted)) in Shape::ALL.iter().zip(&self.shapes) {
             println!("{all:>8}  {}; {accepted} accepted", shape.words());
@@ -131,7 +149,8 @@ impl Counts {
         let sheets = few(self.sheets, LEAST_SHEETS, "sheets");
         let answers = self.answers.missing(NAMES_OF_01, "");
         let with_deadlines = self.with_deadlines.missing(&NAMES, " with deadlines");
-        sheets.into_iter().chain(answers).chain(with_deadlines).collect()
+        let with_count = self.with_count.missing(NAMES_OF_01, " with the count");
+        sheets.into_iter().chain(answers).chain(with_deadlines).chain(with_count).collect()
     }
 }
 
@@ -189,6 +208,17 @@ impl Margins {
     fn print(&self) {
         let Margins { late, just_fit, early } = self;
         println!("{:>8}  margins: {late} late, {just_fit} just fit, {early} early", late + just_fit + early);
+    }
+}
+
+impl Work {
+    fn merge(&mut self, other: &Work) {
+        self.constructs += other.constructs;
+        self.most = self.most.max(other.most);
+    }
+
+    fn print(&self) {
+        println!("{:>8}  constructs counted, at most {} in a sheet", self.constructs, self.most);
     }
 }
 

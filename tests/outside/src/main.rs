@@ -18,6 +18,7 @@ mod refusals;
 mod sheets;
 mod tree;
 mod values;
+mod work;
 mod writer;
 mod wrong;
 

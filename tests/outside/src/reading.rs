@@ -39,6 +39,7 @@ struct Reader<'a> {
     at: usize,
     routine: usize,
     path: Vec<Step>,
+    constructs: u64,
     wrong: Option<Wrong>,
 }
 
@@ -46,14 +47,16 @@ struct Reader<'a> {
 pub struct Reading {
     pub routines: Vec<Routine>,
     pub fault: Option<Refused>,
+    /// Records of constructs before the first fault.
+    pub constructs: u64,
 }
 
 /// Everything but NO ROOM, TOO LONG and TOO BIG is judged here.
 pub fn read(sheet: &[u8], wrong: Option<Wrong>) -> Reading {
-    let mut reader = Reader { sheet, at: 0, routine: 0, path: Vec::new(), wrong };
+    let mut reader = Reader { sheet, at: 0, routine: 0, path: Vec::new(), constructs: 0, wrong };
     let mut routines = Vec::new();
     let fault = reader.sheet(&mut routines).err();
-    Reading { routines, fault }
+    Reading { routines, fault, constructs: reader.constructs }
 }
 
 impl Reader<'_> {
@@ -123,6 +126,7 @@ impl Reader<'_> {
         if let Some(number) = self.fault(&record) {
             return refuse(number, record.place);
         }
+        self.constructs += 1;
         let form = self.form(&record)?;
         Ok(Construct { place: record.place, end: self.at, form })
     }
