@@ -6,7 +6,7 @@ use mathlib.Core.List.{List, [], _∷_, _++_}
 use mathlib.Core.Option.{Option, some, none}
 use lib.ListN.{length}
 use lib.Dec.{ltb, eqb}
-use borrow.Author.Tests.{ltb-true, ltb-false, lt-ltb, le-ltb, eqb-true, eq-eqb, ne-eqb}
+use borrow.Author.Tests.{ltb-true, ltb-false, lt-ltb, le-ltb, eq-eqb, ne-eqb}
 use native.Mathlib.Omega.{arith}
 use Rattle.meaning.specs.Tree.{Construct, itself, mark}
 use Rattle.meaning.specs.Format.{pick}
@@ -14,7 +14,6 @@ use Rattle.meaning.specs.Value.{Known, value, total, times, charges}
 use Rattle.meaning.specs.Work.{records}
 use Rattle.meaning.specs.Judgement.{found}
 use Rattle.meaning.specs.Answer.{valueLimit, Ended, ended, ends, tooBig}
-use Rattle.meaning.proofs.Laws.{pick-true}
 use Rattle.records.specs.declared.Cursor.{Cursor}
 use Rattle.reader.specs.Tallies.{Done, valueCap, share, endedOf, valueTold}
 use Rattle.reader.proofs.Tells.{told-small}

@@ -10,10 +10,10 @@ use borrow.Author.Tests.{ne-eqb}
 use Rattle.meaning.specs.Format.{pick}
 use Rattle.records.specs.declared.Cursor.{Cursor}
 use Rattle.reader.specs.declared.Parsed.the-variants as parsed
-use Rattle.reader.specs.Tallies.{Aside, asideIs, addedAs, markAs, valueCap, counted, Share, Tally, chargesOf, withOf, keptOf, valueTold, closeOf, toppedOf, asideTold, Valued}
-use Rattle.reader.specs.Reader.{ownerOf, ChildReader, childOf, listOf, listFrom, Within}
+use Rattle.reader.specs.Tallies.{Aside, asideIs, addedAs, markAs, valueCap, counted, Tally, chargesOf, withOf, keptOf, valueTold, closeOf, toppedOf, asideTold, Valued}
+use Rattle.reader.specs.Reader.{ownerOf, ChildReader, childOf, listFrom, Within}
 use Rattle.reader.proofs.Laws.{pick-same, pick-most, no-loop, Kept, kept-alike}
-use Rattle.reader.proofs.Tells.{aside-small, over-kept, Closing, closed}
+use Rattle.reader.proofs.Tells.{aside-small, over-kept, closed}
 use Rattle.reader.proofs.Lists.{list-end}
 use Rattle.reader.proofs.Going.{kept, kept-part, Going, going-first, Child, child-of, child-room, child-more}
 use Rattle.reader.proofs.Constructs.{set-added, set-mark, set-four, added-constructs}

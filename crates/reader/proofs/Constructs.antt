@@ -1,5 +1,5 @@
 -- Laws of what `construct` comes to by the record that it finds: one that owns nothing, which `at_once` reads too, or one that owns a list.
-use Prim.Native.Nat.{ℕ, zero, suc, _+_, _-_, _≤_, _<_, min}
+use Prim.Native.Nat.{ℕ, zero, suc, _+_, _-_, _≤_, _<_}
 use mathlib.Core.Path.{_≡_, refl, sym, ap, subst, _∙_}
 use mathlib.Core.List.{List, [], _∷_}
 use lib.Dec.{eqb}
@@ -14,7 +14,7 @@ use Rattle.records.specs.declared.Found.the-variants as found
 use Rattle.records.proofs.Founds.{Past, Ranged, ranged}
 use Rattle.reader.specs.declared.Parsed as code
 use Rattle.reader.specs.declared.Parsed.the-variants as parsed
-use Rattle.reader.specs.Tallies.{Aside, asideIs, overAs, addedAs, markAs, constructsAs, asideOf, asideOpened, valueTold, asideTold, valueCap, Parsed, Done, Refused, share, Told, Valued, Tells, a-value, a-refusal}
+use Rattle.reader.specs.Tallies.{Aside, asideIs, overAs, addedAs, markAs, constructsAs, asideOf, asideOpened, valueTold, asideTold, valueCap, Parsed, Done, Refused, share, Valued}
 use Rattle.reader.specs.Reader.{ChildReader, ownedOf, foundAt, constructOf, Within}
 use Rattle.reader.proofs.Laws.{pick-most}
 use Rattle.reader.proofs.Tells.{aside-none}

@@ -9,7 +9,6 @@ use lib.Seq.{take-take, take-append-le, drop-append-le}
 use native.Mathlib.Omega.{arith}
 use Rattle.meaning.specs.Format.{pick}
 use Rattle.records.specs.declared.Cursor.{Cursor}
-use Rattle.reader.specs.declared.Parsed as code
 use Rattle.reader.specs.declared.Parsed.the-variants as parsed
 use Rattle.reader.specs.Tallies.{Aside, valueCap, isBranch, Share, Done, Refused, Tally, noTally, withOf, keptOf, asideOf, Counts, Held, Told, Valued}
 use Rattle.reader.specs.Reader.{Owner, ChildReader, childOf, listOf, listFrom, Within}

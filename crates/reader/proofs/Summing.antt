@@ -11,9 +11,9 @@ use Rattle.records.specs.declared.Cursor.{Cursor}
 use Rattle.reader.specs.declared.Parsed.the-variants as parsed
 use Rattle.reader.specs.Tallies.{Aside, valueCap, counted, isBranch, Tally, chargesOf, withOf, valueTold, closeOf, asideTold}
 use Rattle.reader.specs.Tallies.{asideOpened, paidOf, asidePaid, heaviest, heaviestSum, Counts, Valued}
-use Rattle.reader.specs.Reader.{Owner, ChildReader, childOf, listOf, listFrom, Within}
+use Rattle.reader.specs.Reader.{Owner, ChildReader, childOf, listFrom, Within}
 use Rattle.reader.proofs.Laws.{sum-fits, fewer-small, kept-other}
-use Rattle.reader.proofs.Tells.{Closing, closed}
+use Rattle.reader.proofs.Tells.{closed}
 use Rattle.reader.proofs.Lists.{list-end}
 use Rattle.reader.proofs.Going.{kept, Going, going-first, child-of, child-room, child-more}
 

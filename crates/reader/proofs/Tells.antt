@@ -12,8 +12,8 @@ use Rattle.reader.specs.declared.Parsed as code
 use Rattle.reader.specs.declared.Parsed.the-variants as parsed
 use Rattle.reader.specs.declared.Quick.{Quick}
 use Rattle.reader.specs.declared.Quick.the-variants as quick
-use Rattle.reader.specs.Tallies.{Aside, valueCap, Share, share, Parsed, Done, Refused, Tally, valueTold, overTold, endedOf, valueOf, closeOf}
-use Rattle.reader.specs.Tallies.{asideOf, asideTold, Told, Valued, Tells, a-value, a-refusal, Quickly, at-once, not-read}
+use Rattle.reader.specs.Tallies.{Aside, valueCap, share, Parsed, Refused, Tally, valueTold, overTold, endedOf, valueOf, closeOf}
+use Rattle.reader.specs.Tallies.{asideOf, asideTold, Valued, Tells, a-value, a-refusal, Quickly, at-once, not-read}
 
 -- no value is a refusal, nor is what is read at once left as it is
 no-refusal : {A : Type 0} {v number place : ℕ} {next : Cursor} → parsed.Value v next ≡ parsed.Refused number place → A

@@ -11,7 +11,7 @@ use Rattle.meaning.specs.Judgement.{sheet, routine}
 use Rattle.reader.specs.declared.Parsed.the-variants as parsed
 use Rattle.reader.specs.declared.Bounds.{Bounds}
 use Rattle.reader.specs.declared.Progress.{Progress}
-use Rattle.reader.specs.Tallies.{Aside, Share, Done, Refused, noAside, asideOf, Told, Valued}
+use Rattle.reader.specs.Tallies.{Aside, Share, Done, Refused, noAside, Told, Valued}
 use Rattle.reader.specs.Reader.{recordOf, onParsed, ownerOf, listFrom, constructOf, routineOf}
 use Rattle.reader.specs.Reader.{noBounds, boundsWith, progressFrom, progressWith, refusal, verdictOf, reportOf, routinesOf, sheetOf}
 

@@ -1,13 +1,12 @@
 -- `construct` meets its contract: a record that owns nothing has its value (Constructs); any other hands one depth less to the reader of its list.
-use Prim.Native.Nat.{ℕ, _+_, _-_, _*_, _≤_, _<_}
+use Prim.Native.Nat.{ℕ, _≤_, _<_}
 use mathlib.Core.Path.{_≡_, refl, sym, _∙_}
-use lib.ListN.{length}
 use native.Mathlib.Omega.{arith}
 use borrow.Author.Needs.{needs}
 use Rattle.records.specs.declared.Found.{Found}
 use Rattle.records.specs.declared.Found.the-variants as found
 use Rattle.records.proofs.Founds.{Past}
-use Rattle.reader.specs.Tallies.{asideIs, a-value, a-refusal}
+use Rattle.reader.specs.Tallies.{a-value, a-refusal}
 use Rattle.reader.specs.Reader.{foundAt, ownedOf}
 use Rattle.reader.proofs.Tells.{tells-as}
 use Rattle.reader.proofs.Constructs.{owner, refuses, primitive-alone, call-alone, marker-alone, set-mark, set-four, call-range, marker-range}
