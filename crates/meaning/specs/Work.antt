@@ -89,7 +89,7 @@ unfoldable pub valuingRoutines : Known → List Routine → Counted Known  -- ro
 valuingRoutines known [] = uncounted known
 valuingRoutines known (r ∷ rs) = do v ← valuingRoutine known r; valuingRoutines (knowing known v) rs
 
-abbrev pub valuingSheet : Sheet → Counted Known
+abbrev pub valuingSheet : Sheet → Counted Known  -- its routines, none known before
 valuingSheet s = valuingRoutines nothing (s .routines)
 
 -- "On acceptance, report the constructs valued; a refusal reports 0."
@@ -116,11 +116,11 @@ unfoldable mutual
   recordsIn end = []
   recordsIn (c then cs) = records c ++ recordsIn cs
 
-unfoldable pub routinesRecords : List Routine → List Record
+unfoldable pub routinesRecords : List Routine → List Record  -- a routine's record, then its body's
 routinesRecords [] = []
 routinesRecords (r ∷ rs) = (routineRecord r ∷ records (r .body)) ++ routinesRecords rs
 
-abbrev pub recordsOf : Sheet → List Record
+abbrev pub recordsOf : Sheet → List Record  -- "The sheet record stands first."
 recordsOf s = sheetRecord s ∷ routinesRecords (s .routines)
 
 -- "the number of construct records": of those whose kind is a construct's
