@@ -33,7 +33,8 @@ abbrev pub either : Option Marker → Option Marker → Option Marker
 either (some m) other = some m
 either none other = other
 
--- What is told of the construct c, read from a place up to another, in a scope whose counts multiply to a product down to it.
+-- What is told of the construct c, read from a place up to another, in a scope whose counts multiply to a product down to it: value, over,
+-- added, mark and constructs, which are v, o, e, m and w, and the next cursor.
 pub record Agrees (known : Known) (product at : ℕ) (c : Construct) (past v o e m w : ℕ) (next : Cursor) : Type 0 where
   pub reached : next .at ≡ past
   pub over : Over (tooBig (ended known at c)) o

@@ -10,10 +10,10 @@ use borrow.Author.Tests.{ne-eqb}
 use Rattle.meaning.specs.Format.{pick}
 use Rattle.records.specs.declared.Cursor.{Cursor}
 use Rattle.reader.specs.declared.Parsed.the-variants as parsed
-use Rattle.reader.specs.Tallies.{Aside, asideIs, addedAs, markAs, valueCap, counted, Tally, chargesOf, withOf, keptOf, valueTold, closeOf, toppedOf, asideTold, Valued}
+use Rattle.reader.specs.Tallies.{Aside, asideIs, addedAs, markAs, valueCap, counted, Tally, chargesOf, withOf, keptOf, valueTold, closeOf, toppedOf, asideTold, Fits, Valued}
 use Rattle.reader.specs.Reader.{ownerOf, ChildReader, childOf, listFrom, Within}
 use Rattle.reader.proofs.Laws.{pick-same, pick-most, no-loop, Kept, kept-alike}
-use Rattle.reader.proofs.Tells.{aside-small, over-kept, closed}
+use Rattle.reader.proofs.Tells.{over-kept, closed}
 use Rattle.reader.proofs.Lists.{list-end}
 use Rattle.reader.proofs.Going.{kept, kept-part, Going, going-first, Child, child-of, child-room, child-more}
 use Rattle.reader.proofs.Constructs.{set-added, set-mark, set-four, added-constructs}
@@ -23,12 +23,15 @@ use Rattle.reader.proofs.Summing.{mark-three}
 abbrev pub lentTo : Aside → ℕ → ℕ → Aside
 lentTo aside i marked = markAs aside (pick (eqb i 0) marked 0)
 
+pub lent-to-fits : {a : Aside} {at : ℕ} (i marked : ℕ) → Fits a at → Fits (lentTo a i marked) at
+lent-to-fits i marked fits = record { added = fits .added; valued = fits .valued }
+
 -- what the code writes for it, and for the end
 pub child-lent : (xs : List ℕ) (x : ℕ) → length xs ≡ 4 → (i marked : ℕ) → x ≡ pick (eqb i 0) marked 0 → asideIs (set xs 2 x) ≡ lentTo (asideIs xs) i marked
 child-lent xs x long i marked e = set-mark xs x long ∙ ap (markAs (asideIs xs)) e
 
-pub added-still : (xs : List ℕ) (mark : ℕ) → length xs ≡ 4 → asideIs xs .added ≤ valueCap → asideIs (set xs 2 mark) .added ≤ valueCap
-added-still xs mark long h = aside-small (set-mark xs mark long) h
+pub mark-added : (xs : List ℕ) (mark : ℕ) → length xs ≡ 4 → asideIs (set xs 2 mark) .added ≡ asideIs xs .added
+mark-added xs mark long = ap (λ a. a .added) (set-mark xs mark long)
 
 pub end-constructs : (xs : List ℕ) (mark x : ℕ) → length xs ≡ 4 → asideIs (set (set xs 2 mark) 1 x) .constructs ≡ asideIs xs .constructs
 end-constructs xs mark x long = added-constructs (set xs 2 mark) x (set-four xs mark long 2) ∙ ap (λ a. a .constructs) (set-mark xs mark long)
@@ -47,10 +50,9 @@ module _ (read : ChildReader) (n start standing product : ℕ) (s lent : List �
     pub sums : sum ≡ t .sum
     pub tops : top ≡ t .top
 
-  pub branching-first : 8 * base ≤ start → Within s start (from .at) → a .added ≤ valueCap → 8 * a .constructs ≤ start →
-      Branching lent 0 0 base (a .mark) from 0 a
-  branching-first h w small low =
-      record { t = _; going = going-first read (ownerOf 4 n 0 start standing product) s lent (n + 1) base from a h w small low; sums = refl; tops = refl }
+  pub branching-first : 8 * base ≤ start → Within s start (from .at) → Fits a start → Branching lent 0 0 base (a .mark) from 0 a
+  branching-first h w fits =
+      record { t = _; going = going-first read (ownerOf 4 n 0 start standing product) s lent (n + 1) base from a h w fits; sums = refl; tops = refl }
 
 module _ {read : ChildReader} {n start standing product : ℕ} {s lent : List ℕ} {base : ℕ} {from : Cursor} {a : Aside} {marks : List ℕ} {sum top held marked : ℕ}
     {c : Cursor} {i : ℕ} {aside : Aside} (g : Branching read n start standing product s lent base from a marks sum top held marked c i aside) where

@@ -61,9 +61,6 @@ module _ {a x : Aside} {before : ℕ} (scope : ℕ) (known : before ≡ a .added
   pub opened-before : addedAs x before ≡ a
   opened-before = λ i. addedAs (is i) (known i)
 
-pub opened-small : {added before : ℕ} → before ≡ added → added ≤ valueCap → before ≤ valueCap
-opened-small e h = rw e h
-
 pub paid-small : {added x : ℕ} (scope : ℕ) → x ≡ pick (eqb scope 1) added 0 → added ≤ valueCap → x ≤ valueCap
 paid-small scope e h = rw e (pick-most (eqb scope 1) h (omega arith))
 

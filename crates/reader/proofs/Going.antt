@@ -10,7 +10,7 @@ use native.Mathlib.Omega.{arith}
 use Rattle.meaning.specs.Format.{pick}
 use Rattle.records.specs.declared.Cursor.{Cursor}
 use Rattle.reader.specs.declared.Parsed.the-variants as parsed
-use Rattle.reader.specs.Tallies.{Aside, valueCap, isBranch, Share, Done, Refused, Tally, noTally, withOf, keptOf, asideOf, Counts, Held, Told, Valued}
+use Rattle.reader.specs.Tallies.{Aside, valueCap, isBranch, Share, Done, Refused, Tally, noTally, withOf, keptOf, asideOf, Fits, Counts, Held, Told, Valued}
 use Rattle.reader.specs.Reader.{Owner, ChildReader, childOf, listOf, listFrom, Within}
 use Rattle.reader.proofs.Laws.{Kept, held-more}
 use Rattle.reader.proofs.Tells.{over-kept, over-three}
@@ -79,8 +79,8 @@ module _ (read : ChildReader) (o : Owner) (s lent : List ℕ) (n base : ℕ) (fr
     pub mark : marked ≡ pick (eqb (t .mark) 0) (first .mark) (t .mark)
     pub constructs : aside .constructs + i ≡ first .constructs + t .constructs
 
-  pub going-first : 8 * base ≤ o .start → Within s (o .start) (from .at) → first .added ≤ valueCap → 8 * first .constructs ≤ o .start → Going lent noTally base from 0 first (first .mark)
-  going-first h w few low =
+  pub going-first : 8 * base ≤ o .start → Within s (o .start) (from .at) → Fits first (o .start) → Going lent noTally base from 0 first (first .mark)
+  going-first h w fits =
       let m = length-take base lent in
       let e : kept base base lent ≡ [] = drop-of-length-le (take base lent) {i = base} (omega arith) in
       let z : n - 0 ≡ n = omega arith in
@@ -91,12 +91,12 @@ module _ (read : ChildReader) (o : Owner) (s lent : List ℕ) (n base : ℕ) (fr
         above = omega arith;
         room = omega (arith, w .past);
         past = omega (arith, w .past);
-        before = low;
+        before = fits .valued;
         inside = w .inside;
         below = refl;
         long = refl;
         over = over-kept (first .over);
-        added = omega arith;
+        added = omega (arith, fits .added);
         mark = refl;
         constructs = refl;
       }
@@ -130,13 +130,9 @@ module _ {read : ChildReader} {o : Owner} {s lent : List ℕ} {n base : ℕ} {fr
       length after ≡ length lent
   still-long after g long = long ∙ g .long
 
-  -- what is added is held just over the limit
-  pub added-small : Going read o s lent n base from first marks t held c i aside marked → aside .added ≤ valueCap
-  added-small g = omega (arith, g .added)
-
-  -- there are at least 8 bytes for each construct that was valued, so they are few
-  pub valued-room : Going read o s lent n base from first marks t held c i aside marked → 8 * aside .constructs ≤ c .at
-  valued-room g = omega (arith, g .constructs, g .past, g .before)
+  -- what is told aside fits, and the constructs that were valued are few
+  pub going-fits : Going read o s lent n base from first marks t held c i aside marked → Fits aside (c .at)
+  going-fits g = record { added = omega (arith, g .added); valued = omega (arith, g .constructs, g .past, g .before) }
 
   pub few-valued : Going read o s lent n base from first marks t held c i aside marked → length s ≤ 60000 → aside .constructs + i ≤ 7500
   few-valued g short = omega (arith, g .constructs, g .past, g .before, g .inside)

@@ -10,9 +10,9 @@ use Rattle.meaning.specs.Format.{pick}
 use Rattle.records.specs.declared.Cursor.{Cursor}
 use Rattle.reader.specs.declared.Parsed.the-variants as parsed
 use Rattle.reader.specs.Tallies.{Aside, valueCap, counted, isBranch, Tally, chargesOf, withOf, valueTold, closeOf, asideTold}
-use Rattle.reader.specs.Tallies.{asideOpened, paidOf, asidePaid, heaviest, heaviestSum, Counts, Valued}
+use Rattle.reader.specs.Tallies.{asideOpened, paidOf, asidePaid, Fits, heaviest, heaviestSum, Counts, Valued}
 use Rattle.reader.specs.Reader.{Owner, ChildReader, childOf, listFrom, Within}
-use Rattle.reader.proofs.Laws.{sum-fits, fewer-small, kept-other}
+use Rattle.reader.proofs.Laws.{pick-most, sum-fits, fewer-small, kept-other}
 use Rattle.reader.proofs.Tells.{closed}
 use Rattle.reader.proofs.Lists.{list-end}
 use Rattle.reader.proofs.Going.{kept, Going, going-first, child-of, child-room, child-more}
@@ -40,22 +40,17 @@ module _ (read : ChildReader) (o : Owner) (s lent : List ℕ) (n base : ℕ) (fr
     pub sums : sum ≡ t .sum
     pub flat : t .top ≡ 0
 
-  lent-small : a .added ≤ valueCap → lentIn o a .added ≤ valueCap
-  lent-small h = go (eqb (o .second) 1)
-    where
-      go : (z : Bool) → pick z 0 (a .added) ≤ valueCap
-      go true = omega arith
-      go false = h
+  lent-fits : {at : ℕ} → Fits a at → Fits (lentIn o a) at
+  lent-fits fits = record { added = pick-most (eqb (o .second) 1) (omega arith) (fits .added); valued = fits .valued }
 
-  pub summing-first : 8 * base ≤ o .start → Within s (o .start) (from .at) → a .added ≤ valueCap → 8 * a .constructs ≤ o .start →
-      Summing lent 0 from 0 (lentIn o a)
-  summing-first h w small low =
-      record { t = _; going = going-first read o s lent n base from (lentIn o a) h w (lent-small small) low; sums = refl; flat = refl }
+  pub summing-first : 8 * base ≤ o .start → Within s (o .start) (from .at) → Fits a (o .start) → Summing lent 0 from 0 (lentIn o a)
+  summing-first h w fits =
+      record { t = _; going = going-first read o s lent n base from (lentIn o a) h w (lent-fits fits); sums = refl; flat = refl }
 
   -- the same where what is lent is known by an equation
-  pub summing-from : {aside : Aside} → aside ≡ lentIn o a → 8 * base ≤ o .start → Within s (o .start) (from .at) → a .added ≤ valueCap →
-      8 * a .constructs ≤ o .start → Summing lent 0 from 0 aside
-  summing-from e h w small low = rw e (summing-first h w small low)
+  pub summing-from : {aside : Aside} → aside ≡ lentIn o a → 8 * base ≤ o .start → Within s (o .start) (from .at) → Fits a (o .start) →
+      Summing lent 0 from 0 aside
+  summing-from e h w fits = rw e (summing-first h w fits)
 
 module _ {read : ChildReader} {o : Owner} {s lent : List ℕ} {n base : ℕ} {from : Cursor} {a : Aside} {marks : List ℕ} {sum : ℕ} {c : Cursor} {i : ℕ}
     {aside : Aside} (g : Summing read o s lent n base from a marks sum c i aside) where

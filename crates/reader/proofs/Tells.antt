@@ -13,7 +13,7 @@ use Rattle.reader.specs.declared.Parsed.the-variants as parsed
 use Rattle.reader.specs.declared.Quick.{Quick}
 use Rattle.reader.specs.declared.Quick.the-variants as quick
 use Rattle.reader.specs.Tallies.{Aside, valueCap, share, Parsed, Refused, Tally, valueTold, overTold, endedOf, valueOf, closeOf}
-use Rattle.reader.specs.Tallies.{asideOf, asideTold, Valued, Tells, a-value, a-refusal, Quickly, at-once, not-read}
+use Rattle.reader.specs.Tallies.{asideOf, asideTold, Fits, Valued, Tells, a-value, a-refusal, Quickly, at-once, not-read}
 
 -- no value is a refusal, nor is what is read at once left as it is
 no-refusal : {A : Type 0} {v number place : ℕ} {next : Cursor} → parsed.Value v next ≡ parsed.Refused number place → A
@@ -61,11 +61,12 @@ told-from e w = rw (← e) w
 pub told-ended : {long at : ℕ} {a b b' : Aside} {x : Parsed} {r r' : code.Parsed} → r' ≡ r → b' ≡ b → Valued long at a x r b → Tells long at a x r' b'
 told-ended e f w = rw (e, f) (a-value w)
 
-pub aside-small : {a b : Aside} → b ≡ a → a .added ≤ valueCap → b .added ≤ valueCap
-aside-small e h = rw e h
+pub fits-as : {a b : Aside} {at : ℕ} → b ≡ a → Fits a at → Fits b at
+fits-as e h = rw e h
 
-pub aside-valued : {a b : Aside} {at : ℕ} → b ≡ a → 8 * a .constructs ≤ at → 8 * b .constructs ≤ at
-aside-valued e h = rw e h
+-- at a later place
+pub fits-on : {a : Aside} {at next : ℕ} → at ≤ next → Fits a at → Fits a next
+fits-on h f = record { added = f .added; valued = omega (arith, f .valued) }
 
 -- a value that is told is in its range
 pub valued-small : {long at : ℕ} {a b : Aside} {x : Parsed} {v : ℕ} {next : Cursor} → Valued long at a x (parsed.Value v next) b → v ≤ valueLimit

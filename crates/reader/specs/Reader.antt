@@ -19,7 +19,7 @@ use Rattle.reader.specs.declared.Progress.{Progress}
 use Rattle.reader.specs.declared.Reply.{Reply}
 use Rattle.reader.specs.declared.Report.{Report}
 use Rattle.reader.specs.declared.Answer.the-variants as answer
-use Rattle.reader.specs.Tallies.{valueCap, asideIs, Parsed, Done, Refused, share, Tally, noTally, chargesOf, withOf, keptOf, closeOf}
+use Rattle.reader.specs.Tallies.{valueCap, asideIs, Parsed, Done, Refused, share, Tally, noTally, chargesOf, withOf, keptOf, closeOf, Fits}
 use Rattle.reader.specs.Ways.{waysOf, wayOf}
 
 -- the record at a cursor, judged, where the sheet's or a routine's is owed
@@ -152,8 +152,8 @@ sheetOf s number =
 unfoldable pub readOf : List ℕ → ℕ → Report
 readOf s number = pick (ltb 60000 (length s)) (reportOf (refusal (length s) 2 0) noBounds) (sheetOf s number)
 
--- What the readers are lent: the bounds of earlier routines, room for the marked branches, and what is told aside so far. There are at least
--- 8 bytes for each marked branch that is held, and for each construct that was valued.
+-- What the readers are lent: the bounds of earlier routines, room for the marked branches, at least 8 bytes for each that is held, and
+-- what is told aside so far.
 pub record Lent (s bounds marks aside : List ℕ) (own product held at : ℕ) : Type 0 where
   pub small : (i : ℕ) → getD bounds i 0 ≤ valueLimit
   pub few : own ≤ 64
@@ -161,8 +161,7 @@ pub record Lent (s bounds marks aside : List ℕ) (own product held at : ℕ) : 
   pub room : length s ≤ 8 * length marks
   pub kept : 8 * held ≤ at
   pub four : length aside ≡ 4
-  pub added : asideIs aside .added ≤ valueCap
-  pub valued : 8 * asideIs aside .constructs ≤ at
+  pub fits : Fits (asideIs aside) at
   pub short : length s ≤ 60000
 
 -- what is lent where a construct is read at once

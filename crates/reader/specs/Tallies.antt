@@ -163,6 +163,11 @@ asidePaid a scope before = addedAs a (pick (eqb scope 1) before (a .added))
 abbrev pub Countable : Aside → ℕ → Type 0
 Countable a valued = a .constructs + valued ≤ 18446744073709551615
 
+-- what is told aside before a place: there are at least 8 bytes for each construct that was valued
+pub record Fits (a : Aside) (at : ℕ) : Type 0 where
+  pub added : a .added ≤ valueCap
+  pub valued : 8 * a .constructs ≤ at
+
 -- the most that a child adds; the most that all add
 abbrev pub heaviest : ℕ → ℕ
 heaviest kind = pick (isLoop kind) 1099512727286627775 valueLimit

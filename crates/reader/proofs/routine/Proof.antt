@@ -5,9 +5,9 @@ use borrow.Author.Needs.{needs}
 use Rattle.meaning.specs.Judgement.{routine}
 use Rattle.records.specs.declared.Head.the-variants as head
 use Rattle.records.proofs.Good.{RoutineFine, routine-fine}
-use Rattle.reader.specs.Tallies.{asideIs, a-refusal}
+use Rattle.reader.specs.Tallies.{a-refusal}
 use Rattle.reader.specs.Reader.{recordOf, constructOf, Within}
-use Rattle.reader.proofs.Tells.{told-as, told-ended, valued-small, tells-value, tells-refusal}
+use Rattle.reader.proofs.Tells.{told-as, told-ended, fits-on, valued-small, tells-value, tells-refusal}
 use Rattle.reader.proofs.Timed.{timed-refused, timed-few, timed-ends}
 use Rattle.reader.proofs.Under.{routine-refused, routine-good}
 use Rattle.records.proofs.Cursor.routine.Reads as cursor-routine
@@ -55,7 +55,7 @@ enum-known-r c = search needs
 construct-requires : tie.Need-construct-requires
 construct-requires c κs =
     let p = start (c .before .before .before) .pre in
-    record { small = p .small; few = p .few; passes = omega arith; room = p .room; kept = omega arith; four = p .four; added = p .added; valued = omega (arith, p .valued, fine (c .before .before .before) .past); short = p .short }
+    record { small = p .small; few = p .few; passes = omega arith; room = p .room; kept = omega arith; four = p .four; fits = fits-on (omega (arith, fine (c .before .before .before) .past)) (p .fits); short = p .short }
 
 enum-known-fault : tie.Need-enum-known-fault
 enum-known-fault c = search needs
@@ -73,13 +73,12 @@ ended-requires : tie.Need-ended-requires
 ended-requires c κs =
     let told = c .before .before in
     let read = told .before .before .before .before .before in
-    let s = start (good read) in
-    let a = s .args in
-    let p = s .pre in
+    let a = start (good read) .args in
+    let p = start (good read) .pre in
     let r = good read .before .r .given .0 .0 in
-    let few = timed-few (constructOf 24 (a .s .now) (a .bounds .now) (a .own)) (r .first) (a .c .at) 0 0 (a .s .now) (a .marks .now) 0 (r .next)
-    (asideIs (a .aside .now)) (omega arith) (within (good read)) (p .added) (p .valued) (p .room) (read .construct .last .1 .1 .1 .1 .1 .0)
-    (tells-value (read .construct .ensures .0) (told .before .v .given .1)) (read .construct .ensures .1 .0) (read .construct .ensures .1 .1 .0) (p .short) in
+    let few = timed-few (constructOf 24 (a .s .now) (a .bounds .now) (a .own)) (r .first) 0 (r .next) p (within (good read))
+    (read .construct .last .1 .1 .1 .1 .1 .0) (tells-value (read .construct .ensures .0) (told .before .v .given .1)) (read .construct .ensures .1 .0)
+    (read .construct .ensures .1 .1 .0) in
     (read .construct .ensures .1 .1 .1, omega (arith, few, p .few))
 
 returns : tie.Need-returns
@@ -95,12 +94,10 @@ same-length c = c .before .before .before .before .before .construct .ensures .1
 returns-2 : tie.Need-returns-2
 returns-2 c =
     let read = c .before .before .before .before .before in
-    let s = start (good read) in
-    let a = s .args in
-    let p = s .pre in
+    let a = start (good read) .args in
     let r = good read .before .r .given .0 .0 in
-    let refused = timed-refused (constructOf 24 (a .s .now) (a .bounds .now) (a .own)) (r .first) (a .c .at) 0 0 (a .s .now) (a .marks .now) 0 (r .next)
-    (asideIs (a .aside .now)) (omega arith) (within (good read)) (p .added) (p .valued) (p .room) (tells-refusal (read .construct .ensures .0) (c .before .fault .given .1)) in
+    let refused = timed-refused (constructOf 24 (a .s .now) (a .bounds .now) (a .own)) (r .first) 0 (r .next) (start (good read) .pre) (within (good read))
+    (tells-refusal (read .construct .ensures .0) (c .before .fault .given .1)) in
     (a-refusal (routine-good (a .s .now) (a .bounds .now) (a .own) (a .c) (is-good (good read)) ∙ refused) refl, read .construct .ensures .1 .1 .0)
 
 same-length-2 : tie.Need-same-length-2
@@ -110,13 +107,11 @@ returns-3 : tie.Need-returns-3
 returns-3 c =
     let told = c .before .before .before in
     let read = told .before .before .before .before .before in
-    let s = start (good read) in
-    let a = s .args in
-    let p = s .pre in
+    let a = start (good read) .args in
     let r = good read .before .r .given .0 .0 in
-    let w = timed-ends (constructOf 24 (a .s .now) (a .bounds .now) (a .own)) (r .first) (a .c .at) 0 0 (a .s .now) (a .marks .now) 0 (r .next) (asideIs (a .aside .now))
-    (omega arith) (within (good read)) (p .added) (p .valued) (p .room) (read .construct .last .1 .1 .1 .1 .1 .0)
-    (tells-value (read .construct .ensures .0) (told .before .v .given .1)) (read .construct .ensures .1 .0) (read .construct .ensures .1 .1 .0) in (
+    let w = timed-ends (constructOf 24 (a .s .now) (a .bounds .now) (a .own)) (r .first) 0 (r .next) (start (good read) .pre) (within (good read))
+    (read .construct .last .1 .1 .1 .1 .1 .0) (tells-value (read .construct .ensures .0) (told .before .v .given .1)) (read .construct .ensures .1 .0)
+    (read .construct .ensures .1 .1 .0) in (
       told-ended (c .ended .ensures .0) (c .ended .ensures .1 .0) (told-as (routine-good (a .s .now) (a .bounds .now) (a .own) (a .c) (is-good (good read))) w),
       read .construct .ensures .1 .1 .0,
     )

@@ -3,7 +3,7 @@ use Prim.Native.Nat.{_-_, _<_}
 use mathlib.Core.Path.{sym, _∙_}
 use native.Mathlib.Omega.{arith}
 use borrow.Author.Needs.{needs}
-use Rattle.reader.proofs.Tells.{told-from, aside-small, aside-valued, tells-value, tells-refusal}
+use Rattle.reader.proofs.Tells.{told-from, fits-as, tells-value, tells-refusal}
 use Rattle.reader.proofs.Under.{Under, under-none, routines-end, turn-refused, turn-more}
 use Rattle.reader.proofs.routines.Statement.{statement}
 use Rattle.reader.proofs.routines.Tie as tie
@@ -54,8 +54,7 @@ routine-requires c κs =
       room = omega (arith, p .1, inv .long);
       kept = omega arith;
       four = told .nothing-told .ensures .1;
-      added = aside-small (told .nothing-told .ensures .0) (omega arith);
-      valued = aside-valued (told .nothing-told .ensures .0) (inv .valued);
+      fits = fits-as (told .nothing-told .ensures .0) (record { added = omega arith; valued = inv .valued });
       short = p .2;
     }
 

@@ -8,11 +8,11 @@ use Rattle.records.specs.declared.Cursor.{Cursor}
 use Rattle.reader.specs.declared.Parsed.the-variants as parsed
 use Rattle.reader.specs.Tallies.{asideIs, Valued, a-refusal}
 use Rattle.reader.specs.Reader.{Owner, ownerOf, ChildReader, childOf, constructOf}
-use Rattle.reader.proofs.Tells.{told-as, told-from, told-ended, aside-small, aside-valued, valued-small, tells-value, tells-refusal, quickly-value, quickly-other}
+use Rattle.reader.proofs.Tells.{told-as, told-from, told-ended, fits-as, valued-small, tells-value, tells-refusal, quickly-value, quickly-other}
 use Rattle.reader.proofs.Children.{alternative-child}
 use Rattle.reader.proofs.Constructs.{set-four}
-use Rattle.reader.proofs.Going.{added-small, valued-room, few-valued, held-room, still-below, still-long, child-refused}
-use Rattle.reader.proofs.Branches.{lentTo, child-lent, end-constructs, end-told, Branching, branching-first, branching-next, branch-room, branch-mark, branching-small, branching-fits, added-still, branching-ends}
+use Rattle.reader.proofs.Going.{going-fits, few-valued, held-room, still-below, still-long, child-refused}
+use Rattle.reader.proofs.Branches.{lentTo, lent-to-fits, child-lent, end-constructs, end-told, Branching, branching-first, branching-next, branch-room, branch-mark, branching-small, branching-fits, mark-added, branching-ends}
 use Rattle.reader.proofs.Depths.{alternative-at, construct-below}
 use Rattle.reader.proofs.construct.Reads as construct
 use Rattle.reader.proofs.alternative.Reads as alternative
@@ -147,7 +147,7 @@ module _ (t : ℕ) where
       let a = s .args in
       let p = s .pre .1 in (
         branching-first (read s) (a .n) (a .start) (a .standing) (a .product) (a .s .now) (a .marks .now) (a .base) (a .c) (asideIs (a .aside .now)) (p .0 .kept) (p .1 .0)
-            (p .0 .added) (p .0 .valued),
+            (p .0 .fits),
         p .0 .four,
       )
 
@@ -179,7 +179,7 @@ module _ (t : ℕ) where
         small = p .small;
         few = p .few;
         four = set-four (l .aside) (chosen .choose5 .result) four 2;
-        added = aside-small (lent-aside chosen) (added-small (inv .going));
+        added = fits-as (lent-aside chosen) (lent-to-fits (l .i) (l .mark) (going-fits (inv .going))) .added;
       }
 
   pub enum-known-v : lts.Need-enum-known-v claims (alternative-at t) alternative.Post Inv-loop μ-loop
@@ -244,7 +244,8 @@ module _ (t : ℕ) where
       let chosen = c .before .before .before .before .before .before in
       let s = start chosen in
       let p = s .pre .1 .0 in
-      let g = testing chosen .before .loop .inv .0 .going in (
+      let l = testing chosen .before .loop in
+      let g = l .inv .0 .going in (
         omega (arith, s .pre .0),
         record {
           small = p .small;
@@ -253,8 +254,7 @@ module _ (t : ℕ) where
           room = omega (arith, p .room, g .long);
           kept = g .room;
           four = c .before .before .before .before .at-once .ensures .1;
-          added = aside-small (still-aside (c .before .before)) (added-small g);
-          valued = aside-valued (still-aside (c .before .before)) (valued-room g);
+          fits = fits-as (still-aside (c .before .before)) (lent-to-fits (l .i) (l .mark) (going-fits g));
           short = p .short;
         },
       )
@@ -362,7 +362,7 @@ module _ (t : ℕ) where
   pub add-at-most : lts.Need-add-at-most claims (alternative-at t) alternative.Post Inv-loop μ-loop
   add-at-most c =
       let l = c .before .before .before .before .before .loop in
-      omega (arith, added-still (l .aside) (l .mark) (l .inv .1) (added-small (l .inv .0 .going)), c .before .charges .ensures .1)
+      omega (arith, mark-added (l .aside) (l .mark) (l .inv .1), going-fits (l .inv .0 .going) .added, c .before .charges .ensures .1)
 
   pub at-most-requires : lts.Need-at-most-requires claims (alternative-at t) alternative.Post Inv-loop μ-loop
   at-most-requires c κs = search needs
@@ -396,5 +396,5 @@ module _ (t : ℕ) where
       let g = l .inv .0 in
       let s = loop .before .before .before .before .before .before in
       let told = end-told (l .aside) (l .mark) (most .at-most .result) (charged .charges .result) (l .inv .1) (most .at-most .ensures) in
-      let w = branching-ends g (omega (arith, charged .before .before .before .loop-test .left)) (s .pre .1 .0 .added) (charged .charges .ensures .0) told refl in
+      let w = branching-ends g (omega (arith, charged .before .before .before .loop-test .left)) (s .pre .1 .0 .fits .added) (charged .charges .ensures .0) told refl in
       (told-ended (c .ended .ensures .0) (c .ended .ensures .1 .0) w, (g .going .below, (g .going .long, c .ended .ensures .1 .1)))

@@ -223,7 +223,7 @@ module _ (t : ℕ) where
       let s = start (c .before .before .before) in
       let a = s .args in
       let p = s .pre .1 in (
-        a-value (primitive-alone (a .left) (a .s .now) (a .bounds .now) (a .own) (a .standing) (a .product) (a .c) (p .added)
+        a-value (primitive-alone (a .left) (a .s .now) (a .bounds .now) (a .own) (a .standing) (a .product) (a .c) (p .fits .added)
             (finds (c .before .before .before) (c .before .cost .given .1))),
         (refl, (refl, p .four)),
       )
@@ -294,7 +294,7 @@ module _ (t : ℕ) where
       let s = start (told .before .before .before) in
       let a = s .args in
       let p = s .pre .1 in (
-        a-value (call-alone (a .left) (a .s .now) (a .bounds .now) (a .own) (a .standing) (a .product) (a .c) (p .added) (p .small) (is-call told)),
+        a-value (call-alone (a .left) (a .s .now) (a .bounds .now) (a .own) (a .standing) (a .product) (a .c) (p .fits .added) (p .small) (is-call told)),
         (refl, (refl, p .four)),
       )
 
@@ -304,6 +304,6 @@ module _ (t : ℕ) where
       let a = s .args in
       let p = s .pre .1 in
       let xs = a .aside .now in (
-        a-value (marker-alone (a .left) (a .s .now) (a .bounds .now) (a .own) (a .standing) (a .product) (a .c) (p .added) (is-marker c) (set-mark xs _ (p .four))),
+        a-value (marker-alone (a .left) (a .s .now) (a .bounds .now) (a .own) (a .standing) (a .product) (a .c) (p .fits .added) (is-marker c) (set-mark xs _ (p .four))),
         (refl, (refl, set-four xs _ (p .four) 2)),
       )

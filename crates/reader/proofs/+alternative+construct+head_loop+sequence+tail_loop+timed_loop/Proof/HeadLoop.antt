@@ -8,10 +8,10 @@ use Rattle.records.specs.declared.Cursor.{Cursor}
 use Rattle.reader.specs.declared.Parsed.the-variants as parsed
 use Rattle.reader.specs.Tallies.{asideIs, addedAs, Valued, Counts, a-refusal}
 use Rattle.reader.specs.Reader.{Owner, ownerOf, ChildReader, childOf, constructOf}
-use Rattle.reader.proofs.Tells.{told-as, told-from, told-ended, aside-small, aside-valued, valued-small, tells-value, tells-refusal, quickly-value, quickly-other}
+use Rattle.reader.proofs.Tells.{told-as, told-from, told-ended, fits-as, valued-small, tells-value, tells-refusal, quickly-value, quickly-other}
 use Rattle.reader.proofs.Children.{head-child}
-use Rattle.reader.proofs.Constructs.{opened-lends, opened-small, opened-before}
-use Rattle.reader.proofs.Going.{added-small, valued-room, few-valued, still-below, still-long, child-refused}
+use Rattle.reader.proofs.Constructs.{opened-lends, opened-before}
+use Rattle.reader.proofs.Going.{going-fits, few-valued, still-below, still-long, child-refused}
 use Rattle.reader.proofs.Summing.{paid-is, Summing, summing-from, summing-fits, summing-small, summing-more, summing-ends}
 use Rattle.reader.proofs.Depths.{head-loop-at, construct-below}
 use Rattle.reader.proofs.construct.Reads as construct
@@ -139,8 +139,8 @@ module _ (t : ℕ) where
       let xs = c .opened .last .1 .0 in (
         summing-from (read s) (owner s) (a .s .now) (a .marks .now) 4 (a .held) (a .c)
             (addedAs (asideIs xs) (c .opened .result))
-            (opened-lends (a .scope) (c .opened .ensures .0) (c .opened .ensures .1 .0)) (p .0 .kept) (p .1 .0) (opened-small (c .opened .ensures .0) (p .0 .added))
-            (aside-valued (c .opened .ensures .1 .0) (p .0 .valued)),
+            (opened-lends (a .scope) (c .opened .ensures .0) (c .opened .ensures .1 .0)) (p .0 .kept) (p .1 .0)
+            (fits-as (opened-before (a .scope) (c .opened .ensures .0) (c .opened .ensures .1 .0)) (p .0 .fits)),
         c .opened .ensures .1 .1,
       )
 
@@ -151,7 +151,7 @@ module _ (t : ℕ) where
   at-once-requires c κs =
       let p = start (entered (c .before)) .pre .1 .0 in
       let (inv, four) = c .before .before .before .loop .inv in
-      record { small = p .small; few = p .few; four = four; added = added-small (inv .going) }
+      record { small = p .small; few = p .few; four = four; added = going-fits (inv .going) .added }
 
   pub enum-known-v : lts.Need-enum-known-v claims (head-loop-at t) head-loop.Post Inv-loop μ-loop
   enum-known-v c = search needs
@@ -197,8 +197,7 @@ module _ (t : ℕ) where
           room = omega (arith, p .room, g .long);
           kept = g .room;
           four = c .before .before .before .before .at-once .ensures .1;
-          added = aside-small (still-aside (c .before .before)) (added-small g);
-          valued = aside-valued (still-aside (c .before .before)) (valued-room g);
+          fits = fits-as (still-aside (c .before .before)) (going-fits g);
           short = p .short;
         },
       )
@@ -256,7 +255,7 @@ module _ (t : ℕ) where
   pub paid-requires : lts.Need-paid-requires claims (head-loop-at t) head-loop.Post Inv-loop μ-loop
   paid-requires c κs = let l = c .before .before .loop in (
     summing-small (l .inv .0) (omega arith),
-    added-small (l .inv .0 .going),
+    going-fits (l .inv .0 .going) .added,
     l .inv .1,
     omega (arith, few-valued (l .inv .0 .going) (start (c .before .before .before) .pre .1 .0 .short)),
   )
@@ -271,8 +270,8 @@ module _ (t : ℕ) where
       let g = l .inv .0 in
       let first = loop .before in
       let s = start first in
-      let w = summing-ends g (c .before .before .loop-test .left) (opened-small (first .opened .ensures .0) (s .pre .1 .0 .added)) refl (paid-is (l .sum) refl) in (
-        told-ended (c .paid .ensures .0) (c .paid .ensures .1 .0)
-            (told-from (opened-before (s .args .scope) (first .opened .ensures .0) (first .opened .ensures .1 .0)) w),
+      let before = opened-before (s .args .scope) (first .opened .ensures .0) (first .opened .ensures .1 .0) in
+      let w = summing-ends g (c .before .before .loop-test .left) (fits-as before (s .pre .1 .0 .fits) .added) refl (paid-is (l .sum) refl) in (
+        told-ended (c .paid .ensures .0) (c .paid .ensures .1 .0) (told-from before w),
         (g .going .below, (g .going .long, c .paid .ensures .1 .1)),
       )

@@ -8,10 +8,10 @@ use Rattle.records.specs.declared.Cursor.{Cursor}
 use Rattle.reader.specs.declared.Parsed.the-variants as parsed
 use Rattle.reader.specs.Tallies.{counted, asideIs, Valued, a-refusal}
 use Rattle.reader.specs.Reader.{Owner, ownerOf, ChildReader, childOf, constructOf}
-use Rattle.reader.proofs.Tells.{told-as, told-from, told-ended, aside-small, aside-valued, valued-small, tells-value, tells-refusal, quickly-value, quickly-other}
+use Rattle.reader.proofs.Tells.{told-as, told-from, told-ended, fits-as, valued-small, tells-value, tells-refusal, quickly-value, quickly-other}
 use Rattle.reader.proofs.Children.{sequence-child}
 use Rattle.reader.proofs.Laws.{no-loop}
-use Rattle.reader.proofs.Going.{added-small, valued-room, few-valued, still-below, still-long, child-refused}
+use Rattle.reader.proofs.Going.{going-fits, few-valued, still-below, still-long, child-refused}
 use Rattle.reader.proofs.Summing.{Summing, summing-first, summing-fits, summing-more, summing-ends}
 use Rattle.reader.proofs.Depths.{sequence-at, construct-below}
 use Rattle.reader.proofs.construct.Reads as construct
@@ -121,7 +121,7 @@ module _ (t : ℕ) where
       let s = c .before .before .before .before in
       let a = s .args in
       let p = s .pre .1 in
-      (summing-first (read s) (owner s) (a .s .now) (a .marks .now) (a .n) (a .held) (a .c) (asideIs (a .aside .now)) (p .0 .kept) (p .1 .0) (p .0 .added) (p .0 .valued), p .0 .four)
+      (summing-first (read s) (owner s) (a .s .now) (a .marks .now) (a .n) (a .held) (a .c) (asideIs (a .aside .now)) (p .0 .kept) (p .1 .0) (p .0 .fits), p .0 .four)
 
   pub choose-requires : lts.Need-choose-requires claims (sequence-at t) sequence.Post Inv-loop μ-loop
   choose-requires c κs = search needs
@@ -130,7 +130,7 @@ module _ (t : ℕ) where
   at-once-requires c κs =
       let p = start (c .before) .pre .1 .0 in
       let (inv, four) = c .before .before .before .loop .inv in
-      record { small = p .small; few = p .few; four = four; added = added-small (inv .going) }
+      record { small = p .small; few = p .few; four = four; added = going-fits (inv .going) .added }
 
   pub enum-known-v : lts.Need-enum-known-v claims (sequence-at t) sequence.Post Inv-loop μ-loop
   enum-known-v c = search needs
@@ -173,8 +173,7 @@ module _ (t : ℕ) where
           room = omega (arith, p .room, g .long);
           kept = g .room;
           four = c .before .before .before .before .at-once .ensures .1;
-          added = aside-small (still-aside (c .before .before)) (added-small g);
-          valued = aside-valued (still-aside (c .before .before)) (valued-room g);
+          fits = fits-as (still-aside (c .before .before)) (going-fits g);
           short = p .short;
         },
       )
@@ -236,5 +235,5 @@ module _ (t : ℕ) where
       let l = c .before .before .before .loop in
       let g = l .inv .0 in
       let s = c .before .before .before .before .before .before .before .before in
-      let w = summing-ends g {value = l .sum} (c .before .before .loop-test .left) (s .pre .1 .0 .added) refl (omega arith) in
+      let w = summing-ends g {value = l .sum} (c .before .before .loop-test .left) (s .pre .1 .0 .fits .added) refl (omega arith) in
       (told-ended (c .ended .ensures .0) (c .ended .ensures .1 .0) w, (g .going .below, (g .going .long, c .ended .ensures .1 .1)))

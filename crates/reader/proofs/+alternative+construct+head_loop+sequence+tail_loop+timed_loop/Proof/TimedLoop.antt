@@ -8,7 +8,7 @@ use Rattle.records.specs.declared.Cursor.{Cursor}
 use Rattle.reader.specs.declared.Parsed.the-variants as parsed
 use Rattle.reader.specs.Tallies.{asideIs, Valued, a-refusal}
 use Rattle.reader.specs.Reader.{ChildReader, constructOf}
-use Rattle.reader.proofs.Tells.{told-from, told-ended, aside-small, aside-valued, valued-small, tells-value, tells-refusal, quickly-value, quickly-other}
+use Rattle.reader.proofs.Tells.{told-from, told-ended, fits-as, fits-on, valued-small, tells-value, tells-refusal, quickly-value, quickly-other}
 use Rattle.reader.proofs.Timed.{timed-refused, timed-few, timed-ends}
 use Rattle.reader.proofs.Depths.{timed-loop-at, construct-below}
 use Rattle.reader.proofs.construct.Reads as construct
@@ -63,7 +63,7 @@ module _ (t : ℕ) where
   at-once-requires c κs =
       let s = c .before .before .before in
       let p = s .pre .1 in
-      record { small = p .0 .small; few = p .0 .few; four = p .0 .four; added = p .0 .added }
+      record { small = p .0 .small; few = p .0 .few; four = p .0 .four; added = p .0 .fits .added }
 
   pub enum-known-v : lts.Need-enum-known-v claims (timed-loop-at t) timed-loop.Post
   enum-known-v c = search needs
@@ -75,20 +75,16 @@ module _ (t : ℕ) where
   ended-requires c κs =
       let once' = c .before in
       let s = starting (once' .before .before .before) in
-      let a = s .args in
       let p = s .pre .1 in
-      let few = timed-few (read s) (a .time) (a .start) (a .standing) (a .product) (a .s .now) (a .marks .now) (a .held) (a .c) (asideIs (a .aside .now))
-      (p .0 .kept) (p .1 .0) (p .0 .added) (p .0 .valued) (p .0 .room) (a .marks .now) (once once') refl refl (p .0 .short) in
+      let few = timed-few (read s) (s .args .time) (s .args .standing) (s .args .c) (p .0) (p .1 .0) (s .args .marks .now) (once once') refl refl in
       (once' .before .before .before .at-once .ensures .1, omega (arith, few))
 
   pub returns : lts.Need-returns claims (timed-loop-at t) timed-loop.Post
   returns c =
       let once' = c .before .before in
       let s = starting (once' .before .before .before) in
-      let a = s .args in
       let p = s .pre .1 in
-      let w = timed-ends (read s) (a .time) (a .start) (a .standing) (a .product) (a .s .now) (a .marks .now) (a .held) (a .c) (asideIs (a .aside .now)) (p .0 .kept)
-      (p .1 .0) (p .0 .added) (p .0 .valued) (p .0 .room) (a .marks .now) (once once') refl refl in
+      let w = timed-ends (read s) (s .args .time) (s .args .standing) (s .args .c) (p .0) (p .1 .0) (s .args .marks .now) (once once') refl refl in
       (told-ended (c .ended .ensures .0) (c .ended .ensures .1 .0) w, (refl, (refl, c .ended .ensures .1 .1)))
 
   pub enum-told : lts.Need-enum-told claims (timed-loop-at t) timed-loop.Post
@@ -106,8 +102,7 @@ module _ (t : ℕ) where
           room = p .room;
           kept = omega (arith, p .kept, s .pre .1 .1 .0 .past);
           four = c .before .before .before .before .at-once .ensures .1;
-          added = aside-small (still-aside (c .before .before)) (p .added);
-          valued = aside-valued (still-aside (c .before .before)) (omega (arith, p .valued, s .pre .1 .1 .0 .past));
+          fits = fits-as (still-aside (c .before .before)) (fits-on (omega (arith, s .pre .1 .1 .0 .past)) (p .fits));
           short = p .short;
         },
       )
@@ -126,11 +121,9 @@ module _ (t : ℕ) where
       let told = c .before in
       let built = told .before .before .before .before .before in
       let s = lending built in
-      let a = s .args in
       let p = s .pre .1 in
-      let few = timed-few (read s) (a .time) (a .start) (a .standing) (a .product) (a .s .now) (a .marks .now) (a .held) (a .c) (asideIs (a .aside .now))
-      (p .0 .kept) (p .1 .0) (p .0 .added) (p .0 .valued) (p .0 .room) (built .construct .last .1 .1 .1 .1 .1 .0) (read-by built (told .before .v2 .given .1))
-      (built .construct .ensures .1 .0) (built .construct .ensures .1 .1 .0) (p .0 .short) in
+      let few = timed-few (read s) (s .args .time) (s .args .standing) (s .args .c) (p .0) (p .1 .0) (built .construct .last .1 .1 .1 .1 .1 .0)
+      (read-by built (told .before .v2 .given .1)) (built .construct .ensures .1 .0) (built .construct .ensures .1 .1 .0) in
       (built .construct .ensures .1 .1 .1, omega (arith, few))
 
   pub same-length : lts.Need-same-length claims (timed-loop-at t) timed-loop.Post
@@ -140,10 +133,9 @@ module _ (t : ℕ) where
   returns-2 c =
       let built = c .before .before .before .before .before in
       let s = lending built in
-      let a = s .args in
       let p = s .pre .1 in
-      let refused = timed-refused (read s) (a .time) (a .start) (a .standing) (a .product) (a .s .now) (a .marks .now) (a .held) (a .c) (asideIs (a .aside .now))
-      (p .0 .kept) (p .1 .0) (p .0 .added) (p .0 .valued) (p .0 .room) (tells-refusal (built .construct .ensures .0) (c .before .number .given .1)) in
+      let refused = timed-refused (read s) (s .args .time) (s .args .standing) (s .args .c) (p .0) (p .1 .0)
+      (tells-refusal (built .construct .ensures .0) (c .before .number .given .1)) in
       (a-refusal refused refl, built .construct .ensures .1)
 
   pub same-length-2 : lts.Need-same-length-2 claims (timed-loop-at t) timed-loop.Post
@@ -154,11 +146,9 @@ module _ (t : ℕ) where
       let told = c .before .before in
       let built = told .before .before .before .before .before in
       let s = lending built in
-      let a = s .args in
       let p = s .pre .1 in
-      let w = timed-ends (read s) (a .time) (a .start) (a .standing) (a .product) (a .s .now) (a .marks .now) (a .held) (a .c) (asideIs (a .aside .now)) (p .0 .kept)
-      (p .1 .0) (p .0 .added) (p .0 .valued) (p .0 .room) (built .construct .last .1 .1 .1 .1 .1 .0) (read-by built (told .before .v2 .given .1)) (built .construct .ensures .1 .0)
-      (built .construct .ensures .1 .1 .0) in (
+      let w = timed-ends (read s) (s .args .time) (s .args .standing) (s .args .c) (p .0) (p .1 .0) (built .construct .last .1 .1 .1 .1 .1 .0)
+      (read-by built (told .before .v2 .given .1)) (built .construct .ensures .1 .0) (built .construct .ensures .1 .1 .0) in (
         told-ended (c .ended2 .ensures .0) (c .ended2 .ensures .1 .0) w,
         (built .construct .ensures .1 .0, (built .construct .ensures .1 .1 .0, c .ended2 .ensures .1 .1)),
       )
