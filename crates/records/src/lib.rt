@@ -154,28 +154,19 @@ fn misplaced(kind: u64, first: u64, own: u64, left: u64, standing: u64) -> u64
 }
 
 impl Cursor {
-    // Four bytes, little-endian. The sheet's end is tested before each.
+    // Four bytes, little-endian. One test for the sheet's end: with the last byte the three before it are there.
     fn word(self, s: &[u8]) -> Field
         requires { ⌜ self .at ≤ length (now s) ⌝ }
         ensures { λ r. ⌜ r ≡ fieldAt (now (s .entry)) (self .at) ⌝ }
     {
         let at = self.at;
         let room = s.len() - at;
-        if room < 1 {
-            return Field::Cut;
-        }
-        let b0 = wide(s[at]);
-        if room < 2 {
-            return Field::Cut;
-        }
-        let b1 = wide(s[at + 1]);
-        if room < 3 {
-            return Field::Cut;
-        }
-        let b2 = wide(s[at + 2]);
         if room < 4 {
             return Field::Cut;
         }
+        let b0 = wide(s[at]);
+        let b1 = wide(s[at + 1]);
+        let b2 = wide(s[at + 2]);
         let b3 = wide(s[at + 3]);
         Field::Value(
             b0 + 256 * b1 + 65536 * b2 + 16777216 * b3,

