@@ -160,8 +160,7 @@ impl Cursor {
         ensures { λ r. ⌜ r ≡ fieldAt (now (s .entry)) (self .at) ⌝ }
     {
         let at = self.at;
-        let room = s.len() - at;
-        if room < 4 {
+        if s.len() < at + 4 {
             return Field::Cut;
         }
         let b0 = wide(s[at]);

@@ -5,8 +5,8 @@ use Rattle.records.proofs.Laws.{field-short, field-made}
 use Rattle.records.proofs.Cursor.word.Statement.{statement}
 use Rattle.records.proofs.Cursor.word.Tie as tie
 
-sub-room : tie.Need-sub-room
-sub-room c = search needs
+add-if1 : tie.Need-add-if1
+add-if1 c = search needs
 
 returns : tie.Need-returns
 returns c = field-short _ _ (omega arith)
@@ -72,7 +72,7 @@ pub word-spec : {M : Type 1} → statement M
 word-spec =
     tie.close
     (tie.spec
-    sub-room
+    add-if1
     returns
     shared-slice-read-wide
     wide-requires
