@@ -1,4 +1,6 @@
 // The calculator for programs in C and Rust: the entries of include/maxt.h, on numbers and slices.
+#![tactic(auto)]
+
 ghost use Rattle.std.specs.Prelude.{◌≡◌, length};
 ghost use Rattle.meaning.specs.Answer.{told, stored, table_after};
 ghost use Rattle.meaning.specs.Work.{work};

@@ -1,4 +1,6 @@
 // The calculator: the bounds of a sheet's routines or its refusal, and the part of the sheet that a routine is.
+#![tactic(auto)]
+
 ghost use Rattle.std.specs.Prelude.{◌≡◌, ◌≤◌, length};
 ghost use Rattle.meaning.specs.Answer.{answer, table_after, part_of, routine_part};
 ghost use Rattle.meaning.specs.Work.{work};

@@ -1,4 +1,6 @@
 // A sheet from a descriptor, and what `maxt` prints for it on standard output.
+#![tactic(auto)]
+
 ghost use Rattle.std.specs.Prelude.{◌≡◌, ◌≤◌, length};
 ghost use Rattle.console.specs.Reading.{told_of, Within};
 

@@ -2,6 +2,8 @@
 // 63 and 65 places, how many constructs are valued, how many of their places are as they were, and the places and the length of the records of
 // routines inside and outside.
 // Then the margins, for routines that are late, just fit and are early, and each refusal with deadlines.
+#![tactic(auto)]
+
 ghost use Rattle.std.specs.Prelude.{◌≡◌, ◌≤◌, length, nat_abs};
 
 use libc::{STDIN_FILENO, STDOUT_FILENO};

@@ -1,4 +1,6 @@
 // Prints the name of each sheet that it is given, what `maxt` prints for it, and how many constructs are valued for it.
+#![tactic(auto)]
+
 use libc::STDOUT_FILENO;
 
 // Of what cannot be read no bytes are counted.

@@ -1,4 +1,6 @@
 // The margin of each routine: by how many cycles its bound keeps its deadline.
+#![tactic(auto)]
+
 ghost use Rattle.std.specs.Prelude.{◌≡◌, ◌++◌, ◌≤◌, length, take, drop};
 ghost use Rattle.meaning.specs.Format.{pick};
 ghost use Rattle.meaning.specs.Answer.{value_limit, told, stored};

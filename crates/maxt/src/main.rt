@@ -1,4 +1,6 @@
 // The bounds of a timing sheet's routines, or its refusal: reads the sheet from standard input.
+#![tactic(auto)]
+
 use libc::STDIN_FILENO;
 
 fn main() {

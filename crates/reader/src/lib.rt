@@ -1,4 +1,6 @@
 // Reads a sheet once: its routines and their constructs, with the value of each as it ends.
+#![tactic(auto)]
+
 ghost use Rattle.std.specs.Prelude.{◌≡◌, ◌+◌, ◌*◌, ◌≤◌, ◌<◌, min, max, length, take};
 ghost use Rattle.meaning.specs.Format.{pick};
 ghost use Rattle.meaning.specs.Answer.{value_limit};

@@ -1,4 +1,6 @@
 // One record of a sheet: read at a cursor, and judged by what is owed there.
+#![tactic(auto)]
+
 ghost use Rattle.std.specs.Prelude.{◌≡◌, ◌≤◌, ◌<◌, length};
 ghost use Rattle.meaning.specs.Judgement.{sheet, routine, judged};
 ghost use Rattle.records.specs.Records.{construct_as, head_of, found_of, leaf_of};
