@@ -7,7 +7,7 @@ ghost use Rattle.records.specs.Records.{construct_as, head_of, found_of, leaf_of
 ghost use Rattle.records.specs.Steps.{field_at, fields_at, form_of, is_outside, is_bad_call, misplaced, marker_fault, judge_of, only_of};
 
 // The reading place, handed from one record to the next by value.
-#[derive(Drop)]
+#[derive(Clone, Copy)]
 pub struct Cursor {
     pub at: usize,
 }
