@@ -5,7 +5,7 @@ use Rattle.reader.proofs.charges.Goals as goal
 pub loop-i-init : goal.loop-i-init
 loop-i-init c = (refl, omega arith, omega arith)
 
-pub charge-more-requires : goal.charge-requires-more
+pub charge-more-requires : goal.charge-more-requires
 charge-more-requires c = (c.requires, omega (arith, c.type_inv.marks c.loop-i.i))
 
 pub overflow_add-sum : goal.overflow_add-sum
