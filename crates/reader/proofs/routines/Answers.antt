@@ -1,5 +1,5 @@
 -- `routines`: the loop keeps `Under` from no routine to the last, and a refused one ends it.
-use Rattle.std.proofs.Common.{sym, ◌∙◌, arith}
+use Rattle.std.proofs.Common.{sym, arith}
 use Rattle.reader.proofs.Tells.{told_from, fits_as, tells_value, tells_refusal}
 use Rattle.reader.proofs.Under.{under_none, routines_end, turn_refused, turn_more}
 use Rattle.reader.proofs.routines.Goals as goal
