@@ -11,4 +11,3 @@ pub mod Lending
 pub mod Under
 pub mod Few
 pub mod Determined
-pub mod Depths

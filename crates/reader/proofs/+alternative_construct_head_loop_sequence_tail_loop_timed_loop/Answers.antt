@@ -588,7 +588,7 @@ timed_loop-returns-in-Refused-clause-tells t c =
     let a = c.args in
     a_refusal
     (timed_refused (construct_of a.left a.s.now a.bounds.now a.own) a.time a.standing a.c c.requires.lent c.requires.within
-        (tells_refusal c.in-Refused.ensures.tells refl))
+    (tells_refusal c.in-Refused.ensures.tells refl))
     refl
 
 pub timed_loop-returns-in-Value-construct-clause-tells : goal.timed_loop-returns-in-Value-construct-clause-tells
@@ -596,4 +596,4 @@ timed_loop-returns-in-Value-construct-clause-tells t c =
     let w = timed_loop_built (goal.at.timed_loop-returns-in-Value-construct-clause-tells t c).In-Value-construct in
     told_ended c.ended-in-Value-construct.ensures.value c.ended-in-Value-construct.ensures.aside_after
     (timed_ends (construct_of c.args.left c.args.s.now c.args.bounds.now c.args.own) c.args.time c.args.standing c.args.c c.requires.lent c.requires.within _ w
-        c.construct.ensures.marks_unchanged c.construct.ensures.marks_len_unchanged)
+    c.construct.ensures.marks_unchanged c.construct.ensures.marks_len_unchanged)
