@@ -720,6 +720,7 @@ fn routine(
 }
 
 impl Bounds {
+    #[tactic(auto, unfolding(crate::specs::Reader::no_bounds))]
     fn none() -> Bounds
         ensures { result ≡ no_bounds }
     {
@@ -733,6 +734,7 @@ impl Bounds {
 
 impl Progress {
     // Before the first routine of a sheet of so many bytes.
+    #[tactic(auto, unfolding(crate::specs::Reader::progress_from))]
     fn from(long: usize, c: Cursor) -> Progress
         ensures { result ≡ progress_from long c }
     {
@@ -746,6 +748,7 @@ impl Progress {
     }
 
     // One routine more; where it is the one asked for, its places.
+    #[tactic(auto, unfolding(crate::specs::Reader::progress_with))]
     fn with(self, own: u64, number: u64, value: u64, over: usize, next: Cursor) -> Progress
         ensures { result ≡ progress_with self own number value over next }
     {
@@ -761,6 +764,7 @@ impl Progress {
 }
 
 // A refusal, with no part.
+#[tactic(auto, unfolding(crate::specs::Reader::refusal))]
 fn refused(long: usize, number: u64, place: usize) -> Reply
     ensures { result ≡ refusal long number place }
 {
@@ -772,6 +776,7 @@ fn refused(long: usize, number: u64, place: usize) -> Reply
 }
 
 // EXTRA, then TOO BIG, then the last routine's bound.
+#[tactic(auto, unfolding(crate::specs::Reader::verdict_of))]
 fn verdict(long: usize, progress: Progress) -> Reply
     ensures { result ≡ verdict_of long progress }
 {
@@ -859,6 +864,7 @@ fn middling(s: &[u8], number: u64) -> Report
 }
 
 // A sheet read once: the answer, the bounds, and where the routine of a number stands.
+#[tactic(auto, unfolding(crate::specs::Reader::read_of))]
 pub fn read(s: &[u8], number: u64) -> Report
     ensures { result ≡ read_of s.now number }
 {
