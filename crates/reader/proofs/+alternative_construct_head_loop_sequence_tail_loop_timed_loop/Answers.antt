@@ -15,7 +15,7 @@ use Rattle.reader.proofs.Branches.{lent_to, lent_to_fits, child_lent, end_constr
 use Rattle.reader.proofs.Branches.{branching_first, branching_next, branch_room, branch_mark, branching_small, branching_fits, branching_ends}
 use Rattle.reader.proofs.Timed.{timed_refused, timed_few, timed_ends}
 use Rattle.reader.proofs.+alternative_construct_head_loop_sequence_tail_loop_timed_loop.Goals as goal
-use Rattle.reader.proofs.+alternative_construct_head_loop_sequence_tail_loop_timed_loop.Goals.{alternative-After-choose-in-loop-i, alternative-After-keep-arg-1, alternative-After-keep-arg-in-Value-construct-1}
+use Rattle.reader.proofs.+alternative_construct_head_loop_sequence_tail_loop_timed_loop.Goals.{alternative-After-choose-in-loop-i, alternative-In-Value, alternative-In-Value-construct}
 use Rattle.reader.proofs.+alternative_construct_head_loop_sequence_tail_loop_timed_loop.Goals.{sequence-After-choose-way, sequence-In-Value, sequence-In-Value-construct}
 use Rattle.reader.proofs.+alternative_construct_head_loop_sequence_tail_loop_timed_loop.Goals.{head_loop-After-choose-way, head_loop-In-Value}
 use Rattle.reader.proofs.+alternative_construct_head_loop_sequence_tail_loop_timed_loop.Goals.{tail_loop-After-choose-way, tail_loop-In-Value}
@@ -139,7 +139,7 @@ sequence_once : {t : ℕ} (c : sequence-In-Value t) →
     (child_of (construct_of a.left a.s.now a.bounds.now a.own) (owner_of 3 a.n 0 a.start a.standing a.product) l.i (a.held - a.held) l.at)
     (parsed.Value c.in-Value.v c.in-Value.next) (aside_is c.at_once.new.aside)
 sequence_once {t} c =
-    let is = sequence_child_is (goal.at.sequence-overflow_add-sum t c).After-choose-way in
+    let is = sequence_child_is (goal.at.sequence-In-Value t c).After-choose-way in
     told_as is (quickly_value c.in-Value.ensures.quickly refl c.args.product)
 
 sequence_built : {t : ℕ} (c : sequence-In-Value-construct t) →
@@ -149,7 +149,7 @@ sequence_built : {t : ℕ} (c : sequence-In-Value-construct t) →
     (child_of (construct_of a.left a.s.now a.bounds.now a.own) (owner_of 3 a.n 0 a.start a.standing a.product) l.i (a.held - a.held) l.at)
     (parsed.Value c.in-Value-construct.v c.in-Value-construct.next) (aside_is c.construct.new.aside)
 sequence_built {t} c =
-    let is = sequence_child_is (goal.at.sequence-loop-i-preserved t c).After-choose-way in
+    let is = sequence_child_is (goal.at.sequence-In-Value-construct t c).After-choose-way in
     told_from (quickly_other c.in-Other.ensures.quickly refl) (told_as is (tells_value c.in-Value-construct.ensures.tells refl))
 
 pub sequence-loop-i-init : goal.sequence-loop-i-init
@@ -230,24 +230,24 @@ alternative_lends : {t : ℕ} (c : alternative-After-choose-in-loop-i t) →
     aside_is (set l.aside 2 c.choose-in-loop-i.result) ≡ lent_to (aside_is l.aside) l.i l.mark
 alternative_lends c = child_lent c.loop-i.aside _ c.loop-i.invariant.1 c.loop-i.i c.loop-i.mark c.choose-in-loop-i.ensures
 
-alternative_once : {t : ℕ} (c : alternative-After-keep-arg-1 t) →
+alternative_once : {t : ℕ} (c : alternative-In-Value t) →
     let a = c.args in
     let l = c.loop-i in
     Valued (length a.s.now) l.at.at (lent_to (aside_is l.aside) l.i l.mark)
     (child_of (construct_of a.left a.s.now a.bounds.now a.own) (owner_of 4 a.n 0 a.start a.standing a.product) l.i (l.held - a.base) l.at)
     (parsed.Value c.in-Value.v c.in-Value.next) (aside_is c.at_once.new.aside)
 alternative_once {t} c =
-    let lent = (goal.at.alternative-keep-held-requires t c).After-choose-in-loop-i in
+    let lent = (goal.at.alternative-In-Value t c).After-choose-in-loop-i in
     told_from (alternative_lends lent) (told_as (alternative_child_is lent) (quickly_value c.in-Value.ensures.quickly refl c.args.product))
 
-alternative_built : {t : ℕ} (c : alternative-After-keep-arg-in-Value-construct-1 t) →
+alternative_built : {t : ℕ} (c : alternative-In-Value-construct t) →
     let a = c.args in
     let l = c.loop-i in
     Valued (length a.s.now) l.at.at (lent_to (aside_is l.aside) l.i l.mark)
     (child_of (construct_of a.left a.s.now a.bounds.now a.own) (owner_of 4 a.n 0 a.start a.standing a.product) l.i (l.held - a.base) l.at)
     (parsed.Value c.in-Value-construct.v c.in-Value-construct.next) (aside_is c.construct.new.aside)
 alternative_built {t} c =
-    let lent = (goal.at.alternative-keep-held-requires-in-Value-construct t c).After-choose-in-loop-i in
+    let lent = (goal.at.alternative-In-Value-construct t c).After-choose-in-loop-i in
     told_from (quickly_other c.in-Other.ensures.quickly refl ∙ alternative_lends lent)
     (told_as (alternative_child_is lent) (tells_value c.in-Value-construct.ensures.tells refl))
 
@@ -272,19 +272,19 @@ alternative-at_once-requires t c =
 pub alternative-keep-held-requires : goal.alternative-keep-held-requires
 alternative-keep-held-requires t c =
     let g = c.loop-i.invariant.0 in
-    let w = alternative_once c in
+    let w = alternative_once (goal.at.alternative-keep-held-requires t c).In-Value in
     let spare = c.requires.lent.room in
     let more : c.loop-i.i < c.args.n + 1 = omega arith in
     (branch_room g _ w spare more refl refl, valued_small w, branch_mark g _ w spare more refl refl)
 
 pub alternative-overflow_add-sum : goal.alternative-overflow_add-sum
 alternative-overflow_add-sum t c =
-    let w = alternative_once (goal.at.alternative-overflow_add-sum t c).After-keep-arg-1 in
+    let w = alternative_once (goal.at.alternative-overflow_add-sum t c).In-Value in
     omega (arith, branching_fits c.loop-i.invariant.0 c.choose-sum.ensures (valued_small w) (omega arith) c.requires.le_n.1)
 
 pub alternative-loop-i-preserved-in-Value : goal.alternative-loop-i-preserved-in-Value
 alternative-loop-i-preserved-in-Value t c =
-    let w = alternative_once (goal.at.alternative-loop-i-preserved-in-Value t c).After-keep-arg-1 in
+    let w = alternative_once (goal.at.alternative-loop-i-preserved-in-Value t c).In-Value in
     let k = c.keep-held.ensures in (
       branching_next c.loop-i.invariant.0 c.loop-i.marks w c.requires.lent.room (omega arith) refl refl
           (k.value, (k.marks_after, k.marks_len_unchanged)) c.choose-sum.ensures c.topped-top.ensures c.choose-mark.ensures,
@@ -312,7 +312,7 @@ alternative-returns-in-Refused-clause-marks_unchanged t c = still_below _ c.loop
 pub alternative-keep-held-requires-in-Value-construct : goal.alternative-keep-held-requires-in-Value-construct
 alternative-keep-held-requires-in-Value-construct t c =
     let g = c.loop-i.invariant.0 in
-    let w = alternative_built c in
+    let w = alternative_built (goal.at.alternative-keep-held-requires-in-Value-construct t c).In-Value-construct in
     let spare = c.requires.lent.room in
     let more : c.loop-i.i < c.args.n + 1 = omega arith in
     let still = c.construct.ensures.marks_unchanged in
@@ -321,13 +321,13 @@ alternative-keep-held-requires-in-Value-construct t c =
 
 pub alternative-overflow_add-sum-in-Value-construct : goal.alternative-overflow_add-sum-in-Value-construct
 alternative-overflow_add-sum-in-Value-construct t c =
-    let w = alternative_built (goal.at.alternative-overflow_add-sum-in-Value-construct t c).After-keep-arg-in-Value-construct-1 in
+    let w = alternative_built (goal.at.alternative-overflow_add-sum-in-Value-construct t c).In-Value-construct in
     let e = c.choose-sum-in-Value-construct.ensures in
     omega (arith, branching_fits c.loop-i.invariant.0 e (valued_small w) (omega arith) c.requires.le_n.1)
 
 pub alternative-loop-i-preserved : goal.alternative-loop-i-preserved
 alternative-loop-i-preserved t c =
-    let w = alternative_built (goal.at.alternative-loop-i-preserved t c).After-keep-arg-in-Value-construct-1 in
+    let w = alternative_built (goal.at.alternative-loop-i-preserved t c).In-Value-construct in
     let k = c.keep-held-in-Value-construct.ensures in (
       branching_next c.loop-i.invariant.0 c.construct.new.marks w c.requires.lent.room (omega arith)
           c.construct.ensures.marks_unchanged c.construct.ensures.marks_len_unchanged
@@ -395,7 +395,7 @@ head_loop_once : {t : ℕ} (c : head_loop-In-Value t) →
     (a.held - a.held) l.at)
     (parsed.Value c.in-Value.v c.in-Value.next) (aside_is c.at_once.new.aside)
 head_loop_once {t} c =
-    let is = head_loop_child_is (goal.at.head_loop-counted-sum-requires-clause-v_le_value_limit t c).After-choose-way in
+    let is = head_loop_child_is (goal.at.head_loop-In-Value t c).After-choose-way in
     told_as is (quickly_value c.in-Value.ensures.quickly refl c.inner_of-inner.result)
 
 pub head_loop-loop-i-init : goal.head_loop-loop-i-init
@@ -486,7 +486,7 @@ tail_loop_once : {t : ℕ} (c : tail_loop-In-Value t) →
     (a.held - a.held) l.at)
     (parsed.Value c.in-Value.v c.in-Value.next) (aside_is c.at_once.new.aside)
 tail_loop_once {t} c =
-    let is = tail_loop_child_is (goal.at.tail_loop-counted-sum-requires-clause-v_le_value_limit t c).After-choose-way in
+    let is = tail_loop_child_is (goal.at.tail_loop-In-Value t c).After-choose-way in
     told_as is (quickly_value c.in-Value.ensures.quickly refl c.inner_of-inner.result)
 
 pub tail_loop-loop-i-init : goal.tail_loop-loop-i-init
@@ -588,7 +588,7 @@ timed_loop-returns-in-Refused-clause-tells t c =
     let a = c.args in
     a_refusal
     (timed_refused (construct_of a.left a.s.now a.bounds.now a.own) a.time a.standing a.c c.requires.lent c.requires.within
-        (tells_refusal c.in-Refused.ensures.tells refl))
+    (tells_refusal c.in-Refused.ensures.tells refl))
     refl
 
 pub timed_loop-returns-in-Value-construct-clause-tells : goal.timed_loop-returns-in-Value-construct-clause-tells
@@ -596,4 +596,4 @@ timed_loop-returns-in-Value-construct-clause-tells t c =
     let w = timed_loop_built (goal.at.timed_loop-returns-in-Value-construct-clause-tells t c).In-Value-construct in
     told_ended c.ended-in-Value-construct.ensures.value c.ended-in-Value-construct.ensures.aside_after
     (timed_ends (construct_of c.args.left c.args.s.now c.args.bounds.now c.args.own) c.args.time c.args.standing c.args.c c.requires.lent c.requires.within _ w
-        c.construct.ensures.marks_unchanged c.construct.ensures.marks_len_unchanged)
+    c.construct.ensures.marks_unchanged c.construct.ensures.marks_len_unchanged)
