@@ -8,7 +8,7 @@ use Rattle.reader.proofs.Tells.{told_as, told_from, told_ended, tells_as, fits_a
 use Rattle.reader.proofs.Children.{sequence_child, alternative_child, head_child, tail_child}
 use Rattle.reader.proofs.Constructs.{owner, refuses, primitive_alone, call_alone, marker_alone, set_mark, set_four, call_range, marker_range}
 use Rattle.reader.proofs.Constructs.{sequence_range, alternative_range, head_range, tail_range, timed_range, within_list}
-use Rattle.reader.proofs.Lending.{lent_once, lent_on}
+use Rattle.reader.proofs.Lending.{lent_once, lent_on, left_fits, read_once, read_next, list_tells}
 use Rattle.reader.proofs.Going.{going_fits, few_valued, held_room, still_below, child_refused}
 use Rattle.reader.proofs.Summing.{paid_is, summing_first, summing_from, summing_fits, summing_small, summing_more, summing_ends}
 use Rattle.reader.proofs.Branches.{lent_to, lent_to_fits, child_lent, end_constructs, end_told, mark_added}
@@ -140,7 +140,7 @@ sequence_once : {t : ℕ} (c : sequence-In-Value t) →
     (parsed.Value c.in-Value.v c.in-Value.next) (aside_is c.at_once.new.aside)
 sequence_once {t} c =
     let is = sequence_child_is (goal.at.sequence-In-Value t c).After-choose-way in
-    told_as is (quickly_value c.in-Value.ensures.quickly refl c.args.product)
+    read_once c.in-Value.ensures.quickly c.args.product is
 
 sequence_built : {t : ℕ} (c : sequence-In-Value-construct t) →
     let a = c.args in
@@ -150,7 +150,7 @@ sequence_built : {t : ℕ} (c : sequence-In-Value-construct t) →
     (parsed.Value c.in-Value-construct.v c.in-Value-construct.next) (aside_is c.construct.new.aside)
 sequence_built {t} c =
     let is = sequence_child_is (goal.at.sequence-In-Value-construct t c).After-choose-way in
-    told_from (quickly_other c.in-Other.ensures.quickly refl) (told_as is (tells_value c.in-Value-construct.ensures.tells refl))
+    read_next c.in-Other.ensures.quickly is c.in-Value-construct.ensures.tells
 
 pub sequence-loop-i-init : goal.sequence-loop-i-init
 sequence-loop-i-init t c =
@@ -175,14 +175,13 @@ pub sequence-construct-requires : goal.sequence-construct-requires
 sequence-construct-requires t c =
     let p = c.requires.lent in
     let g = c.loop-i.invariant.0.going in
-    let fits = fits_as (quickly_other c.in-Other.ensures.quickly refl) (going_fits g) in
+    let fits = left_fits c.in-Other.ensures.quickly (going_fits g) in
     (omega arith, lent_on p c.at_once.ensures.aside_len fits p.passes g.long g.room)
 
 pub sequence-returns-in-Refused-clause-tells : goal.sequence-returns-in-Refused-clause-tells
 sequence-returns-in-Refused-clause-tells t c =
     let is = sequence_child_is (goal.at.sequence-returns-in-Refused-clause-tells t c).After-choose-way in
-    let refused = is ∙ tells_refusal c.in-Refused.ensures.tells refl in
-    a_refusal (child_refused c.loop-i.invariant.0.going c.requires.lent.room c.loop-i-test.true refused) refl
+    list_tells c.loop-i.invariant.0.going c.requires.lent.room c.loop-i-test.true is c.in-Refused.ensures.tells
 
 pub sequence-returns-in-Refused-clause-marks_unchanged : goal.sequence-returns-in-Refused-clause-marks_unchanged
 sequence-returns-in-Refused-clause-marks_unchanged t c = still_below _ c.loop-i.invariant.0.going c.construct.ensures.marks_unchanged
@@ -238,7 +237,7 @@ alternative_once : {t : ℕ} (c : alternative-In-Value t) →
     (parsed.Value c.in-Value.v c.in-Value.next) (aside_is c.at_once.new.aside)
 alternative_once {t} c =
     let lent = (goal.at.alternative-In-Value t c).After-choose-in-loop-i in
-    told_from (alternative_lends lent) (told_as (alternative_child_is lent) (quickly_value c.in-Value.ensures.quickly refl c.args.product))
+    told_from (alternative_lends lent) (read_once c.in-Value.ensures.quickly c.args.product (alternative_child_is lent))
 
 alternative_built : {t : ℕ} (c : alternative-In-Value-construct t) →
     let a = c.args in
@@ -248,8 +247,7 @@ alternative_built : {t : ℕ} (c : alternative-In-Value-construct t) →
     (parsed.Value c.in-Value-construct.v c.in-Value-construct.next) (aside_is c.construct.new.aside)
 alternative_built {t} c =
     let lent = (goal.at.alternative-In-Value-construct t c).After-choose-in-loop-i in
-    told_from (quickly_other c.in-Other.ensures.quickly refl ∙ alternative_lends lent)
-    (told_as (alternative_child_is lent) (tells_value c.in-Value-construct.ensures.tells refl))
+    told_from (alternative_lends lent) (read_next c.in-Other.ensures.quickly (alternative_child_is lent) c.in-Value-construct.ensures.tells)
 
 pub alternative-loop-i-init : goal.alternative-loop-i-init
 alternative-loop-i-init t c =
@@ -296,15 +294,13 @@ alternative-construct-requires t c =
     let l = c.loop-i in
     let g = l.invariant.0.going in
     let lent = (goal.at.alternative-construct-requires t c).After-choose-in-loop-i in
-    let is = quickly_other c.in-Other.ensures.quickly refl ∙ alternative_lends lent in
-    let fits = fits_as is (lent_to_fits l.i l.mark (going_fits g)) in
+    let fits = left_fits c.in-Other.ensures.quickly (fits_as (alternative_lends lent) (lent_to_fits l.i l.mark (going_fits g))) in
     (omega arith, lent_on c.requires.lent c.at_once.ensures.aside_len fits c.requires.lent.passes g.long g.room)
 
 pub alternative-returns-in-Refused-clause-tells : goal.alternative-returns-in-Refused-clause-tells
 alternative-returns-in-Refused-clause-tells t c =
     let is = alternative_child_is (goal.at.alternative-returns-in-Refused-clause-tells t c).After-choose-in-loop-i in
-    let refused = is ∙ tells_refusal c.in-Refused.ensures.tells refl in
-    a_refusal (child_refused c.loop-i.invariant.0.going c.requires.lent.room (omega arith) refused) refl
+    list_tells c.loop-i.invariant.0.going c.requires.lent.room (omega arith) is c.in-Refused.ensures.tells
 
 pub alternative-returns-in-Refused-clause-marks_unchanged : goal.alternative-returns-in-Refused-clause-marks_unchanged
 alternative-returns-in-Refused-clause-marks_unchanged t c = still_below _ c.loop-i.invariant.0.going c.construct.ensures.marks_unchanged
@@ -396,7 +392,7 @@ head_loop_once : {t : ℕ} (c : head_loop-In-Value t) →
     (parsed.Value c.in-Value.v c.in-Value.next) (aside_is c.at_once.new.aside)
 head_loop_once {t} c =
     let is = head_loop_child_is (goal.at.head_loop-In-Value t c).After-choose-way in
-    told_as is (quickly_value c.in-Value.ensures.quickly refl c.inner_of-inner.result)
+    read_once c.in-Value.ensures.quickly c.inner_of-inner.result is
 
 pub head_loop-loop-i-init : goal.head_loop-loop-i-init
 head_loop-loop-i-init t c =
@@ -424,14 +420,13 @@ head_loop-loop-i-preserved-in-Value t c =
 pub head_loop-construct-requires : goal.head_loop-construct-requires
 head_loop-construct-requires t c =
     let g = c.loop-i.invariant.0.going in
-    let fits = fits_as (quickly_other c.in-Other.ensures.quickly refl) (going_fits g) in
+    let fits = left_fits c.in-Other.ensures.quickly (going_fits g) in
     (omega arith, lent_on c.requires.lent c.at_once.ensures.aside_len fits c.inner_of-inner.ensures.1 g.long g.room)
 
 pub head_loop-returns-in-Refused-clause-tells : goal.head_loop-returns-in-Refused-clause-tells
 head_loop-returns-in-Refused-clause-tells t c =
     let is = head_loop_child_is (goal.at.head_loop-returns-in-Refused-clause-tells t c).After-choose-way in
-    let refused = is ∙ tells_refusal c.in-Refused.ensures.tells refl in
-    a_refusal (child_refused c.loop-i.invariant.0.going c.requires.lent.room c.loop-i-test.true refused) refl
+    list_tells c.loop-i.invariant.0.going c.requires.lent.room c.loop-i-test.true is c.in-Refused.ensures.tells
 
 pub head_loop-returns-in-Refused-clause-marks_unchanged : goal.head_loop-returns-in-Refused-clause-marks_unchanged
 head_loop-returns-in-Refused-clause-marks_unchanged t c = still_below _ c.loop-i.invariant.0.going c.construct.ensures.marks_unchanged
@@ -443,7 +438,7 @@ head_loop-overflow_add-sum-in-Value-construct t c =
 pub head_loop-loop-i-preserved : goal.head_loop-loop-i-preserved
 head_loop-loop-i-preserved t c =
     let is = head_loop_child_is (goal.at.head_loop-loop-i-preserved t c).After-choose-way in
-    let w = told_from (quickly_other c.in-Other.ensures.quickly refl) (told_as is (tells_value c.in-Value-construct.ensures.tells refl)) in (
+    let w = read_next c.in-Other.ensures.quickly is c.in-Value-construct.ensures.tells in (
       summing_more c.loop-i.invariant.0 _ w c.counted-sum-in-Value-construct.ensures.0 c.requires.lent.room
           (record { loop = λ _. c.requires.count_bound.0 }) c.loop-i-test.true refl
           c.construct.ensures.marks_unchanged c.construct.ensures.marks_len_unchanged,
@@ -487,7 +482,7 @@ tail_loop_once : {t : ℕ} (c : tail_loop-In-Value t) →
     (parsed.Value c.in-Value.v c.in-Value.next) (aside_is c.at_once.new.aside)
 tail_loop_once {t} c =
     let is = tail_loop_child_is (goal.at.tail_loop-In-Value t c).After-choose-way in
-    told_as is (quickly_value c.in-Value.ensures.quickly refl c.inner_of-inner.result)
+    read_once c.in-Value.ensures.quickly c.inner_of-inner.result is
 
 pub tail_loop-loop-i-init : goal.tail_loop-loop-i-init
 tail_loop-loop-i-init t c =
@@ -515,14 +510,13 @@ tail_loop-loop-i-preserved-in-Value t c =
 pub tail_loop-construct-requires : goal.tail_loop-construct-requires
 tail_loop-construct-requires t c =
     let g = c.loop-i.invariant.0.going in
-    let fits = fits_as (quickly_other c.in-Other.ensures.quickly refl) (going_fits g) in
+    let fits = left_fits c.in-Other.ensures.quickly (going_fits g) in
     (omega arith, lent_on c.requires.lent c.at_once.ensures.aside_len fits c.inner_of-inner.ensures.1 g.long g.room)
 
 pub tail_loop-returns-in-Refused-clause-tells : goal.tail_loop-returns-in-Refused-clause-tells
 tail_loop-returns-in-Refused-clause-tells t c =
     let is = tail_loop_child_is (goal.at.tail_loop-returns-in-Refused-clause-tells t c).After-choose-way in
-    let refused = is ∙ tells_refusal c.in-Refused.ensures.tells refl in
-    a_refusal (child_refused c.loop-i.invariant.0.going c.requires.lent.room c.loop-i-test.true refused) refl
+    list_tells c.loop-i.invariant.0.going c.requires.lent.room c.loop-i-test.true is c.in-Refused.ensures.tells
 
 pub tail_loop-returns-in-Refused-clause-marks_unchanged : goal.tail_loop-returns-in-Refused-clause-marks_unchanged
 tail_loop-returns-in-Refused-clause-marks_unchanged t c = still_below _ c.loop-i.invariant.0.going c.construct.ensures.marks_unchanged
@@ -534,7 +528,7 @@ tail_loop-overflow_add-sum-in-Value-construct t c =
 pub tail_loop-loop-i-preserved : goal.tail_loop-loop-i-preserved
 tail_loop-loop-i-preserved t c =
     let is = tail_loop_child_is (goal.at.tail_loop-loop-i-preserved t c).After-choose-way in
-    let w = told_from (quickly_other c.in-Other.ensures.quickly refl) (told_as is (tells_value c.in-Value-construct.ensures.tells refl)) in (
+    let w = read_next c.in-Other.ensures.quickly is c.in-Value-construct.ensures.tells in (
       summing_more c.loop-i.invariant.0 _ w c.counted-sum-in-Value-construct.ensures.0 c.requires.lent.room
           (record { loop = λ _. c.requires.count_bound.0 }) c.loop-i-test.true refl
           c.construct.ensures.marks_unchanged c.construct.ensures.marks_len_unchanged,
@@ -560,13 +554,13 @@ timed_loop_once : {t : ℕ} (c : timed_loop-In-Value t) →
     let a = c.args in
     Valued (length a.s.now) a.c.at (aside_is a.aside.now) (construct_of a.left a.s.now a.bounds.now a.own 0 0 a.c)
     (parsed.Value c.in-Value.v c.in-Value.next) (aside_is c.at_once.new.aside)
-timed_loop_once c = quickly_value c.in-Value.ensures.quickly refl 0
+timed_loop_once c = read_once c.in-Value.ensures.quickly 0 refl
 
 timed_loop_built : {t : ℕ} (c : timed_loop-In-Value-construct t) →
     let a = c.args in
     Valued (length a.s.now) a.c.at (aside_is a.aside.now) (construct_of a.left a.s.now a.bounds.now a.own 0 0 a.c)
     (parsed.Value c.in-Value-construct.v c.in-Value-construct.next) (aside_is c.construct.new.aside)
-timed_loop_built c = told_from (quickly_other c.in-Other.ensures.quickly refl) (tells_value c.in-Value-construct.ensures.tells refl)
+timed_loop_built c = read_next c.in-Other.ensures.quickly refl c.in-Value-construct.ensures.tells
 
 pub timed_loop-overflow_add-v : goal.timed_loop-overflow_add-v
 timed_loop-overflow_add-v t c = omega (arith, valued_small (timed_loop_once c))
