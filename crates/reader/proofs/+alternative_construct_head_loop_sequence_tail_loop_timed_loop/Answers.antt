@@ -1,18 +1,19 @@
--- The readers of constructs and of their lists meet their contracts.
-use Rattle.std.proofs.Common.{ℕ, ◌≡◌, ◌+◌, ◌-◌, ◌<◌, refl, sym, ap, ◌∙◌, length, set, arith}
+-- The readers of constructs and of their lists meet their contracts. Of the list that `f` reads, `f_child_is` says how a child is read, and
+-- `f_once` and `f_built` what is told of one that was read at once or by `construct`: its loop keeps `Summing` or `Branching` by that.
+use Rattle.std.proofs.Common.{ℕ, ◌≡◌, ◌+◌, ◌-◌, ◌<◌, refl, sym, ap, length, set, arith}
 use Rattle.reader.specs.declared.Parsed.TheVariants as parsed
 use Rattle.reader.specs.Tallies.{aside_is, aside_paid, counted, Valued, a_value, a_refusal}
 use Rattle.reader.specs.Reader.{owner_of, child_of, owned_of, construct_of}
 use Rattle.reader.proofs.Laws.{no_loop}
-use Rattle.reader.proofs.Tells.{told_as, told_from, told_ended, tells_as, fits_as, valued_small, tells_value, tells_refusal, quickly_value, quickly_other}
+use Rattle.reader.proofs.Tells.{told_from, told_ended, tells_as, valued_small, tells_refusal}
 use Rattle.reader.proofs.Children.{sequence_child, alternative_child, head_child, tail_child}
-use Rattle.reader.proofs.Constructs.{owner, refuses, primitive_alone, call_alone, marker_alone, set_mark, set_four, call_range, marker_range}
+use Rattle.reader.proofs.Constructs.{owner, refuses, primitive_alone, call_alone, marker_alone, set_mark, call_range, marker_range}
 use Rattle.reader.proofs.Constructs.{sequence_range, alternative_range, head_range, tail_range, timed_range, within_list}
-use Rattle.reader.proofs.Lending.{lent_once, lent_on, left_fits, read_once, read_next, list_tells}
-use Rattle.reader.proofs.Going.{going_fits, few_valued, held_room, still_below, child_refused}
-use Rattle.reader.proofs.Summing.{paid_is, summing_first, summing_from, summing_fits, summing_small, summing_more, summing_ends}
-use Rattle.reader.proofs.Branches.{lent_to, lent_to_fits, child_lent, end_constructs, end_told, mark_added}
-use Rattle.reader.proofs.Branches.{branching_first, branching_next, branch_room, branch_mark, branching_small, branching_fits, branching_ends}
+use Rattle.reader.proofs.Reading.{read_once, read_next, list_tells}
+use Rattle.reader.proofs.Going.{still_below}
+use Rattle.reader.proofs.Summing.{paid_is, summing_first, summing_from, summing_fits, summing_more, summing_ends}
+use Rattle.reader.proofs.Branches.{lent_to, child_lent, end_told}
+use Rattle.reader.proofs.Branches.{branching_first, branching_next, branch_room, branch_mark, branching_ends}
 use Rattle.reader.proofs.Timed.{timed_refused, timed_few, timed_ends}
 use Rattle.reader.proofs.+alternative_construct_head_loop_sequence_tail_loop_timed_loop.Goals as goal
 use Rattle.reader.proofs.+alternative_construct_head_loop_sequence_tail_loop_timed_loop.Goals.{alternative-After-choose-in-loop-i, alternative-In-Value, alternative-In-Value-construct}
@@ -157,9 +158,6 @@ sequence-loop-i-init t c =
     let p = c.requires.lent in
     (summing_first _ _ _ _ _ _ _ _ p.kept c.requires.within p.fits, p.four)
 
-pub sequence-at_once-requires : goal.sequence-at_once-requires
-sequence-at_once-requires t c = lent_once c.requires.lent c.loop-i.invariant.1 (going_fits c.loop-i.invariant.0.going)
-
 pub sequence-overflow_add-sum : goal.sequence-overflow_add-sum
 sequence-overflow_add-sum t c =
     omega (arith, summing_fits c.loop-i.invariant.0 c.loop-i-test.true (omega arith), valued_small (sequence_once c))
@@ -171,24 +169,10 @@ sequence-loop-i-preserved-in-Value t c = (
   c.in-Value.ensures.aside_len,
 )
 
-pub sequence-construct-requires : goal.sequence-construct-requires
-sequence-construct-requires t c =
-    let p = c.requires.lent in
-    let g = c.loop-i.invariant.0.going in
-    let fits = left_fits c.in-Other.ensures.quickly (going_fits g) in
-    (omega arith, lent_on p c.at_once.ensures.aside_len fits p.passes g.long g.room)
-
 pub sequence-returns-in-Refused-clause-tells : goal.sequence-returns-in-Refused-clause-tells
 sequence-returns-in-Refused-clause-tells t c =
     let is = sequence_child_is (goal.at.sequence-returns-in-Refused-clause-tells t c).After-choose-way in
     list_tells c.loop-i.invariant.0.going c.requires.lent.room c.loop-i-test.true is c.in-Refused.ensures.tells
-
-pub sequence-returns-in-Refused-clause-marks_unchanged : goal.sequence-returns-in-Refused-clause-marks_unchanged
-sequence-returns-in-Refused-clause-marks_unchanged t c = still_below _ c.loop-i.invariant.0.going c.construct.ensures.marks_unchanged
-
-pub sequence-overflow_add-sum-in-Value-construct : goal.sequence-overflow_add-sum-in-Value-construct
-sequence-overflow_add-sum-in-Value-construct t c =
-    omega (arith, summing_fits c.loop-i.invariant.0 c.loop-i-test.true (omega arith), valued_small (sequence_built c))
 
 pub sequence-loop-i-preserved : goal.sequence-loop-i-preserved
 unfolding counted
@@ -198,18 +182,11 @@ sequence-loop-i-preserved t c = (
   c.construct.ensures.aside_len,
 )
 
-pub sequence-ended-requires : goal.sequence-ended-requires
-sequence-ended-requires t c =
-    (c.loop-i.invariant.1, omega (arith, few_valued c.loop-i.invariant.0.going c.requires.lent.short))
-
 pub sequence-returns-clause-tells : goal.sequence-returns-clause-tells
 sequence-returns-clause-tells t c =
     let g = c.loop-i.invariant.0 in
     told_ended c.ended.ensures.value c.ended.ensures.aside_after
     (summing_ends g {value = c.loop-i.sum} c.loop-i-test.false c.requires.lent.fits.added refl (omega arith))
-
-pub sequence-returns-clause-marks_unchanged : goal.sequence-returns-clause-marks_unchanged
-sequence-returns-clause-marks_unchanged t c = c.loop-i.invariant.0.going.below
 
 -- The condition and the branches of `alternative`, read at once or by `construct`, keep `Branching`.
 alternative_child_is : {t : ℕ} (c : alternative-After-choose-in-loop-i t) →
@@ -254,19 +231,6 @@ alternative-loop-i-init t c =
     let p = c.requires.lent in
     (branching_first _ _ _ _ _ _ _ _ _ _ p.kept c.requires.within p.fits, p.four)
 
-pub alternative-overflow_sub-held : goal.alternative-overflow_sub-held
-alternative-overflow_sub-held t c = c.loop-i.invariant.0.going.above
-
-pub alternative-overflow_add-held : goal.alternative-overflow_add-held
-alternative-overflow_add-held t c = omega (arith, c.loop-i.invariant.0.going.room, c.requires.lent.short, c.loop-i.invariant.0.going.inside)
-
-pub alternative-at_once-requires : goal.alternative-at_once-requires
-alternative-at_once-requires t c =
-    let l = c.loop-i in
-    let lent = (goal.at.alternative-at_once-requires t c).After-choose-in-loop-i in
-    lent_once c.requires.lent (set_four l.aside _ l.invariant.1 2)
-    (fits_as (alternative_lends lent) (lent_to_fits l.i l.mark (going_fits l.invariant.0.going)))
-
 pub alternative-keep-held-requires : goal.alternative-keep-held-requires
 alternative-keep-held-requires t c =
     let g = c.loop-i.invariant.0 in
@@ -274,11 +238,6 @@ alternative-keep-held-requires t c =
     let spare = c.requires.lent.room in
     let more : c.loop-i.i < c.args.n + 1 = omega arith in
     (branch_room g _ w spare more refl refl, valued_small w, branch_mark g _ w spare more refl refl)
-
-pub alternative-overflow_add-sum : goal.alternative-overflow_add-sum
-alternative-overflow_add-sum t c =
-    let w = alternative_once (goal.at.alternative-overflow_add-sum t c).In-Value in
-    omega (arith, branching_fits c.loop-i.invariant.0 c.choose-sum.ensures (valued_small w) (omega arith) c.requires.le_n.1)
 
 pub alternative-loop-i-preserved-in-Value : goal.alternative-loop-i-preserved-in-Value
 alternative-loop-i-preserved-in-Value t c =
@@ -289,14 +248,6 @@ alternative-loop-i-preserved-in-Value t c =
       c.in-Value.ensures.aside_len,
     )
 
-pub alternative-construct-requires : goal.alternative-construct-requires
-alternative-construct-requires t c =
-    let l = c.loop-i in
-    let g = l.invariant.0.going in
-    let lent = (goal.at.alternative-construct-requires t c).After-choose-in-loop-i in
-    let fits = left_fits c.in-Other.ensures.quickly (fits_as (alternative_lends lent) (lent_to_fits l.i l.mark (going_fits g))) in
-    (omega arith, lent_on c.requires.lent c.at_once.ensures.aside_len fits c.requires.lent.passes g.long g.room)
-
 pub alternative-returns-in-Refused-clause-tells : goal.alternative-returns-in-Refused-clause-tells
 alternative-returns-in-Refused-clause-tells t c =
     let is = alternative_child_is (goal.at.alternative-returns-in-Refused-clause-tells t c).After-choose-in-loop-i in
@@ -304,22 +255,6 @@ alternative-returns-in-Refused-clause-tells t c =
 
 pub alternative-returns-in-Refused-clause-marks_unchanged : goal.alternative-returns-in-Refused-clause-marks_unchanged
 alternative-returns-in-Refused-clause-marks_unchanged t c = still_below _ c.loop-i.invariant.0.going c.construct.ensures.marks_unchanged
-
-pub alternative-keep-held-requires-in-Value-construct : goal.alternative-keep-held-requires-in-Value-construct
-alternative-keep-held-requires-in-Value-construct t c =
-    let g = c.loop-i.invariant.0 in
-    let w = alternative_built (goal.at.alternative-keep-held-requires-in-Value-construct t c).In-Value-construct in
-    let spare = c.requires.lent.room in
-    let more : c.loop-i.i < c.args.n + 1 = omega arith in
-    let still = c.construct.ensures.marks_unchanged in
-    let long = c.construct.ensures.marks_len_unchanged in
-    (branch_room g _ w spare more still long, valued_small w, branch_mark g _ w spare more still long)
-
-pub alternative-overflow_add-sum-in-Value-construct : goal.alternative-overflow_add-sum-in-Value-construct
-alternative-overflow_add-sum-in-Value-construct t c =
-    let w = alternative_built (goal.at.alternative-overflow_add-sum-in-Value-construct t c).In-Value-construct in
-    let e = c.choose-sum-in-Value-construct.ensures in
-    omega (arith, branching_fits c.loop-i.invariant.0 e (valued_small w) (omega arith) c.requires.le_n.1)
 
 pub alternative-loop-i-preserved : goal.alternative-loop-i-preserved
 alternative-loop-i-preserved t c =
@@ -332,42 +267,12 @@ alternative-loop-i-preserved t c =
       c.construct.ensures.aside_len,
     )
 
-pub alternative-slice_bounds-charges-count : goal.alternative-slice_bounds-charges-count
-alternative-slice_bounds-charges-count t c = c.loop-i.invariant.0.going.above
-
-pub alternative-slice_bounds-charges-start : goal.alternative-slice_bounds-charges-start
-alternative-slice_bounds-charges-start t c = c.loop-i.invariant.0.going.above
-
-pub alternative-slice_bounds-charges-end : goal.alternative-slice_bounds-charges-end
-alternative-slice_bounds-charges-end t c = held_room c.loop-i.invariant.0.going c.requires.lent.room
-
-pub alternative-overflow_add-aside : goal.alternative-overflow_add-aside
-alternative-overflow_add-aside t c =
-    let l = c.loop-i in
-    omega (arith, mark_added l.aside l.mark l.invariant.1, (going_fits l.invariant.0.going).added, c.charges-more.ensures.1)
-
-pub alternative-overflow_add-sum-2 : goal.alternative-overflow_add-sum-2
-alternative-overflow_add-sum-2 t c =
-    let g = c.loop-i.invariant.0 in
-    omega (arith, branching_small g, g.going.count, c.requires.le_n.1)
-
-pub alternative-ended-requires : goal.alternative-ended-requires
-alternative-ended-requires t c =
-    let l = c.loop-i in
-    let four = set_four l.aside l.mark l.invariant.1 2 in (
-      set_four (set l.aside 2 l.mark) _ four 1,
-      omega (arith, end_constructs l.aside l.mark c.at_most.result l.invariant.1, few_valued l.invariant.0.going c.requires.lent.short),
-    )
-
 pub alternative-returns-clause-tells : goal.alternative-returns-clause-tells
 alternative-returns-clause-tells t c =
     let l = c.loop-i in
     let same = end_told l.aside l.mark c.at_most.result c.charges-more.result l.invariant.1 c.at_most.ensures in
     told_ended c.ended.ensures.value c.ended.ensures.aside_after
     (branching_ends l.invariant.0 (omega arith) c.requires.lent.fits.added c.charges-more.ensures.0 same refl)
-
-pub alternative-returns-clause-marks_unchanged : goal.alternative-returns-clause-marks_unchanged
-alternative-returns-clause-marks_unchanged t c = c.loop-i.invariant.0.going.below
 
 -- The children of `head_loop`, read at once or by `construct`, add up; a scope pays what its markers add.
 head_loop_child_is : {t : ℕ} (c : head_loop-After-choose-way t) →
@@ -399,15 +304,8 @@ head_loop-loop-i-init t c =
     let p = c.requires.lent in
     (summing_from _ _ _ _ _ _ _ _ c.opened-before.ensures.aside_after p.kept c.requires.within p.fits, c.opened-before.ensures.aside_len)
 
-pub head_loop-at_once-requires : goal.head_loop-at_once-requires
-head_loop-at_once-requires t c = lent_once c.requires.lent c.loop-i.invariant.1 (going_fits c.loop-i.invariant.0.going)
-
 pub head_loop-counted-sum-requires-clause-v_le_value_limit : goal.head_loop-counted-sum-requires-clause-v_le_value_limit
 head_loop-counted-sum-requires-clause-v_le_value_limit t c = valued_small (head_loop_once c)
-
-pub head_loop-overflow_add-sum : goal.head_loop-overflow_add-sum
-head_loop-overflow_add-sum t c =
-    omega (arith, summing_fits c.loop-i.invariant.0 c.loop-i-test.true (omega arith), c.counted-sum.ensures.1)
 
 pub head_loop-loop-i-preserved-in-Value : goal.head_loop-loop-i-preserved-in-Value
 head_loop-loop-i-preserved-in-Value t c =
@@ -417,23 +315,10 @@ head_loop-loop-i-preserved-in-Value t c =
       c.in-Value.ensures.aside_len,
     )
 
-pub head_loop-construct-requires : goal.head_loop-construct-requires
-head_loop-construct-requires t c =
-    let g = c.loop-i.invariant.0.going in
-    let fits = left_fits c.in-Other.ensures.quickly (going_fits g) in
-    (omega arith, lent_on c.requires.lent c.at_once.ensures.aside_len fits c.inner_of-inner.ensures.1 g.long g.room)
-
 pub head_loop-returns-in-Refused-clause-tells : goal.head_loop-returns-in-Refused-clause-tells
 head_loop-returns-in-Refused-clause-tells t c =
     let is = head_loop_child_is (goal.at.head_loop-returns-in-Refused-clause-tells t c).After-choose-way in
     list_tells c.loop-i.invariant.0.going c.requires.lent.room c.loop-i-test.true is c.in-Refused.ensures.tells
-
-pub head_loop-returns-in-Refused-clause-marks_unchanged : goal.head_loop-returns-in-Refused-clause-marks_unchanged
-head_loop-returns-in-Refused-clause-marks_unchanged t c = still_below _ c.loop-i.invariant.0.going c.construct.ensures.marks_unchanged
-
-pub head_loop-overflow_add-sum-in-Value-construct : goal.head_loop-overflow_add-sum-in-Value-construct
-head_loop-overflow_add-sum-in-Value-construct t c =
-    omega (arith, summing_fits c.loop-i.invariant.0 c.loop-i-test.true (omega arith), c.counted-sum-in-Value-construct.ensures.1)
 
 pub head_loop-loop-i-preserved : goal.head_loop-loop-i-preserved
 head_loop-loop-i-preserved t c =
@@ -445,19 +330,11 @@ head_loop-loop-i-preserved t c =
       c.construct.ensures.aside_len,
     )
 
-pub head_loop-paid-requires : goal.head_loop-paid-requires
-head_loop-paid-requires t c =
-    let (g, four) = c.loop-i.invariant in
-    (summing_small g (omega arith), (going_fits g.going).added, four, omega (arith, few_valued g.going c.requires.lent.short))
-
 pub head_loop-returns-clause-tells : goal.head_loop-returns-clause-tells
 head_loop-returns-clause-tells t c =
     let same = ap (aside_paid (aside_is c.loop-i.aside) c.args.scope) c.opened-before.ensures.value in
     told_ended c.paid.ensures.value c.paid.ensures.aside_after
     (summing_ends c.loop-i.invariant.0 c.loop-i-test.false c.requires.lent.fits.added same (paid_is c.loop-i.sum refl))
-
-pub head_loop-returns-clause-marks_unchanged : goal.head_loop-returns-clause-marks_unchanged
-head_loop-returns-clause-marks_unchanged t c = c.loop-i.invariant.0.going.below
 
 -- The children of `tail_loop`, read at once or by `construct`, add up and are paid for in the same way.
 tail_loop_child_is : {t : ℕ} (c : tail_loop-After-choose-way t) →
@@ -489,15 +366,8 @@ tail_loop-loop-i-init t c =
     let p = c.requires.lent in
     (summing_from _ _ _ _ _ _ _ _ c.opened-before.ensures.aside_after p.kept c.requires.within p.fits, c.opened-before.ensures.aside_len)
 
-pub tail_loop-at_once-requires : goal.tail_loop-at_once-requires
-tail_loop-at_once-requires t c = lent_once c.requires.lent c.loop-i.invariant.1 (going_fits c.loop-i.invariant.0.going)
-
 pub tail_loop-counted-sum-requires-clause-v_le_value_limit : goal.tail_loop-counted-sum-requires-clause-v_le_value_limit
 tail_loop-counted-sum-requires-clause-v_le_value_limit t c = valued_small (tail_loop_once c)
-
-pub tail_loop-overflow_add-sum : goal.tail_loop-overflow_add-sum
-tail_loop-overflow_add-sum t c =
-    omega (arith, summing_fits c.loop-i.invariant.0 c.loop-i-test.true (omega arith), c.counted-sum.ensures.1)
 
 pub tail_loop-loop-i-preserved-in-Value : goal.tail_loop-loop-i-preserved-in-Value
 tail_loop-loop-i-preserved-in-Value t c =
@@ -507,23 +377,10 @@ tail_loop-loop-i-preserved-in-Value t c =
       c.in-Value.ensures.aside_len,
     )
 
-pub tail_loop-construct-requires : goal.tail_loop-construct-requires
-tail_loop-construct-requires t c =
-    let g = c.loop-i.invariant.0.going in
-    let fits = left_fits c.in-Other.ensures.quickly (going_fits g) in
-    (omega arith, lent_on c.requires.lent c.at_once.ensures.aside_len fits c.inner_of-inner.ensures.1 g.long g.room)
-
 pub tail_loop-returns-in-Refused-clause-tells : goal.tail_loop-returns-in-Refused-clause-tells
 tail_loop-returns-in-Refused-clause-tells t c =
     let is = tail_loop_child_is (goal.at.tail_loop-returns-in-Refused-clause-tells t c).After-choose-way in
     list_tells c.loop-i.invariant.0.going c.requires.lent.room c.loop-i-test.true is c.in-Refused.ensures.tells
-
-pub tail_loop-returns-in-Refused-clause-marks_unchanged : goal.tail_loop-returns-in-Refused-clause-marks_unchanged
-tail_loop-returns-in-Refused-clause-marks_unchanged t c = still_below _ c.loop-i.invariant.0.going c.construct.ensures.marks_unchanged
-
-pub tail_loop-overflow_add-sum-in-Value-construct : goal.tail_loop-overflow_add-sum-in-Value-construct
-tail_loop-overflow_add-sum-in-Value-construct t c =
-    omega (arith, summing_fits c.loop-i.invariant.0 c.loop-i-test.true (omega arith), c.counted-sum-in-Value-construct.ensures.1)
 
 pub tail_loop-loop-i-preserved : goal.tail_loop-loop-i-preserved
 tail_loop-loop-i-preserved t c =
@@ -535,19 +392,11 @@ tail_loop-loop-i-preserved t c =
       c.construct.ensures.aside_len,
     )
 
-pub tail_loop-paid-requires : goal.tail_loop-paid-requires
-tail_loop-paid-requires t c =
-    let (g, four) = c.loop-i.invariant in
-    (summing_small g (omega arith), (going_fits g.going).added, four, omega (arith, few_valued g.going c.requires.lent.short))
-
 pub tail_loop-returns-clause-tells : goal.tail_loop-returns-clause-tells
 tail_loop-returns-clause-tells t c =
     let same = ap (aside_paid (aside_is c.loop-i.aside) c.args.scope) c.opened-before.ensures.value in
     told_ended c.paid.ensures.value c.paid.ensures.aside_after
     (summing_ends c.loop-i.invariant.0 c.loop-i-test.false c.requires.lent.fits.added same (paid_is c.loop-i.sum refl))
-
-pub tail_loop-returns-clause-marks_unchanged : goal.tail_loop-returns-clause-marks_unchanged
-tail_loop-returns-clause-marks_unchanged t c = c.loop-i.invariant.0.going.below
 
 -- The statement of `timed_loop`, read at once or by `construct`, adds to its time.
 timed_loop_once : {t : ℕ} (c : timed_loop-In-Value t) →
