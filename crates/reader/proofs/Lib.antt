@@ -11,4 +11,3 @@ pub mod Reading
 pub mod Under
 pub mod Few
 pub mod Determined
-pub mod Depths

@@ -343,7 +343,8 @@ impl Cursor {
         let Field::Value(first, next) = c.word(s) else {
             return Leaf::Other;
         };
-        if head == 131080 {
+        let is_primitive = head == 131080;
+        if is_primitive {
             return Leaf::Primitive(first, next);
         }
         if head == 524296 {
@@ -353,10 +354,12 @@ impl Cursor {
             return Leaf::Call(first, next);
         }
         if head == 589836 {
-            if standing != 5 {
+            let strays = standing != 5;
+            if strays {
                 return Leaf::Other;
             }
-            if 1000000 < first {
+            let over = 1000000 < first;
+            if over {
                 return Leaf::Other;
             }
             let Field::Value(second, past) = next.word(s) else {

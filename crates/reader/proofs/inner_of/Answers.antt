@@ -2,7 +2,6 @@
 use Rattle.std.proofs.Common.{arith}
 use borrow.Author.Tests.{eq-eqb, ne_eqb}
 use Rattle.reader.specs.Ways.{inner_of}
-use Rattle.reader.proofs.Laws.{product_small}
 use Rattle.reader.proofs.inner_of.Goals as goal
 
 pub returns-then-scope-eq1 : goal.returns-then-scope-eq1

@@ -1,5 +1,5 @@
 -- `Cursor::construct` judges by the row of the kind that it read: each arm is `construct_arm`, the last `construct_none`.
-use Rattle.std.proofs.Common.{◌≡◌, ◌≢◌, refl, sym, ◌/◌, true, length, ◌≤◌, arith}
+use Rattle.std.proofs.Common.{◌≢◌, refl, sym, ◌/◌, arith}
 use Rattle.meaning.specs.Format.{construct_rows, listed, ranges_of}
 use Rattle.records.specs.Steps.{form_of}
 use Rattle.records.proofs.Judging.{construct_cut, construct_arm, construct_none}

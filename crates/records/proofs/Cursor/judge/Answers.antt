@@ -1,7 +1,7 @@
 -- `Cursor::judge` judges a record from its length on: each return is what `judge_of` says after the tests that led there.
 use Rattle.std.proofs.Common.{sym}
 use borrow.Author.Tests.{eq-eqb, ne_eqb}
-use Rattle.records.specs.Steps.{form_of, judge_of}
+use Rattle.records.specs.Steps.{judge_of}
 use Rattle.records.proofs.Cursor.judge.Goals as goal
 
 pub returns-then-size-f : goal.returns-then-size-f

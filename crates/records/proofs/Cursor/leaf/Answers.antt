@@ -46,8 +46,8 @@ opened s own left standing at are deep head rest read first next read_first = re
   read_first = read_first;
 }
 
-pub returns-then-head-eq131080 : goal.returns-then-head-eq131080
-returns-then-head-eq131080 c = primitive_is (opened c.args.s.now c.args.own c.args.left c.args.standing c.args.self.at c.type_inv.s c.if-left-eq0.false _ _ c.in-Value.ensures _ _ c.in-Value-word.ensures) c.if-head-eq131080.true
+pub returns-then-is_primitive : goal.returns-then-is_primitive
+returns-then-is_primitive c = primitive_is (opened c.args.s.now c.args.own c.args.left c.args.standing c.args.self.at c.type_inv.s c.if-left-eq0.false _ _ c.in-Value.ensures _ _ c.in-Value-word.ensures) c.if-is_primitive.true
 
 pub returns-then-is_bad_call : goal.returns-then-is_bad_call
 returns-then-is_bad_call c = bad_call_lem (opened c.args.s.now c.args.own c.args.left c.args.standing c.args.self.at c.type_inv.s c.if-left-eq0.false _ _ c.in-Value.ensures _ _ c.in-Value-word.ensures) c.if-head-eq524296.true (sym c.if-is_bad_call.ensures)
@@ -55,11 +55,11 @@ returns-then-is_bad_call c = bad_call_lem (opened c.args.s.now c.args.own c.args
 pub returns-then-head-eq524296 : goal.returns-then-head-eq524296
 returns-then-head-eq524296 c = call_is (opened c.args.s.now c.args.own c.args.left c.args.standing c.args.self.at c.type_inv.s c.if-left-eq0.false _ _ c.in-Value.ensures _ _ c.in-Value-word.ensures) c.if-head-eq524296.true (sym c.if-is_bad_call.ensures)
 
-pub returns-then-standing-ne5 : goal.returns-then-standing-ne5
-returns-then-standing-ne5 c = marker_stray (opened c.args.s.now c.args.own c.args.left c.args.standing c.args.self.at c.type_inv.s c.if-left-eq0.false _ _ c.in-Value.ensures _ _ c.in-Value-word.ensures) c.if-head-eq589836.true c.if-standing-ne5.true
+pub returns-then-strays : goal.returns-then-strays
+returns-then-strays c = marker_stray (opened c.args.s.now c.args.own c.args.left c.args.standing c.args.self.at c.type_inv.s c.if-left-eq0.false _ _ c.in-Value.ensures _ _ c.in-Value-word.ensures) c.if-head-eq589836.true c.if-strays.true
 
-pub returns-then-first-gt1000000 : goal.returns-then-first-gt1000000
-returns-then-first-gt1000000 c = marker_most (opened c.args.s.now c.args.own c.args.left c.args.standing c.args.self.at c.type_inv.s c.if-left-eq0.false _ _ c.in-Value.ensures _ _ c.in-Value-word.ensures) c.if-head-eq589836.true c.if-first-gt1000000.true
+pub returns-then-over : goal.returns-then-over
+returns-then-over c = marker_most (opened c.args.s.now c.args.own c.args.left c.args.standing c.args.self.at c.type_inv.s c.if-left-eq0.false _ _ c.in-Value.ensures _ _ c.in-Value-word.ensures) c.if-head-eq589836.true c.if-over.true
 
 pub word-requires-then-head-eq589836 : goal.word-requires-then-head-eq589836
 word-requires-then-head-eq589836 c = field_past _ _ (sym c.in-Value-word.ensures)
@@ -68,7 +68,7 @@ pub returns-in_default-word-2 : goal.returns-in_default-word-2
 returns-in_default-word-2 c = marker_cut (opened c.args.s.now c.args.own c.args.left c.args.standing c.args.self.at c.type_inv.s c.if-left-eq0.false _ _ c.in-Value.ensures _ _ c.in-Value-word.ensures) c.if-head-eq589836.true c.in_default-word-2.ensures
 
 pub returns-then-head-eq589836 : goal.returns-then-head-eq589836
-returns-then-head-eq589836 c = marker_is (opened c.args.s.now c.args.own c.args.left c.args.standing c.args.self.at c.type_inv.s c.if-left-eq0.false _ _ c.in-Value.ensures _ _ c.in-Value-word.ensures) c.if-head-eq589836.true c.if-standing-ne5.false c.if-first-gt1000000.false c.in-Value-word-2.ensures
+returns-then-head-eq589836 c = marker_is (opened c.args.s.now c.args.own c.args.left c.args.standing c.args.self.at c.type_inv.s c.if-left-eq0.false _ _ c.in-Value.ensures _ _ c.in-Value-word.ensures) c.if-head-eq589836.true c.if-strays.false c.if-over.false c.in-Value-word-2.ensures
 
 pub returns : goal.returns
-returns c = other_head (opened c.args.s.now c.args.own c.args.left c.args.standing c.args.self.at c.type_inv.s c.if-left-eq0.false _ _ c.in-Value.ensures _ _ c.in-Value-word.ensures) c.if-head-eq131080.false c.if-head-eq524296.false c.if-head-eq589836.false
+returns c = other_head (opened c.args.s.now c.args.own c.args.left c.args.standing c.args.self.at c.type_inv.s c.if-left-eq0.false _ _ c.in-Value.ensures _ _ c.in-Value-word.ensures) c.if-is_primitive.false c.if-head-eq524296.false c.if-head-eq589836.false
