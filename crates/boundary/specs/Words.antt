@@ -1,6 +1,6 @@
 -- What the entries for C and Rust hand back, as numbers in order.
 use Rattle.std.specs.Prelude.{ℕ, List, [], ◌∷◌}
-use Rattle.meaning.specs.Answer.{Verdict, accepted, refused, answer, Part, part_of}
+use Rattle.meaning.specs.Answer.{Verdict, accepted, refused, answer, part_of}
 
 -- document 01, "What comes back": number, place and bound; an accepted sheet has number and place 0, "a refusal's bound is 0"
 abbrev pub verdict_words : Verdict ℕ → List ℕ

@@ -10,7 +10,7 @@ use borrow.Author.Tests.{ne_eqb}
 use native.Mathlib.Omega.{arith}
 use Rattle.meaning.specs.Tree.{Marker, Construct, Constructs, end, ◌then◌, itself, mark}
 use Rattle.meaning.specs.Format.{pick, bytes}
-use Rattle.meaning.specs.Value.{Known, larger, total, times, value, sum, largest, charges, charges_in}
+use Rattle.meaning.specs.Value.{Known, larger, total, times, value, largest, charges, charges_in}
 use Rattle.meaning.specs.Work.{records, records_in}
 use Rattle.meaning.specs.Judgement.{is_marked}
 use Rattle.meaning.specs.Answer.{ended, ended_in, too_big}

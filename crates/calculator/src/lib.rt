@@ -57,7 +57,8 @@ pub fn fill(sheet: &[u8], table: &mut [u64]) -> Filled
     ensures table_after { table.new ≡ table_after sheet.now table.old }
     ensures routines_bound { result.routines ≤ 64 }
 {
-    if table.len() < 64 {
+    let no_room = table.len() < 64;
+    if no_room {
         return Filled {
             answer: Answer::Refused(1, 0),
             routines: 0,

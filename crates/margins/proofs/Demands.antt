@@ -1,9 +1,8 @@
 -- The demands of what `margins` returns: when it answers what, and what a margin says of the runs of its routine.
-use Prim.Native.Nat.{ℕ, zero, suc, ◌+◌, ◌-◌, ◌≤◌, ◌<◌}
+use Prim.Native.Nat.{ℕ, zero, suc, ◌+◌, ◌≤◌, ◌<◌}
 use mathlib.Core.Path.{◌≡◌, refl, sym, ap, subst, ◌∙◌}
 use mathlib.Core.Bool.{Bool, true, false}
 use mathlib.Core.List.{List}
-use mathlib.Core.Option.{some, none}
 use mathlib.Core.Logic.{◌⊎◌, inl, inr}
 use lib.ListN.{length, take, drop, get_or-append}
 use lib.IntN.{ℤ, pos, negsuc}

@@ -14,7 +14,7 @@ use native.Mathlib.Omega.{arith}
 use native.Mathlib.Nat.{not-suc-le-zero}
 use Rattle.meaning.specs.Tree.{Sheet}
 use Rattle.meaning.specs.Format.{pick}
-use Rattle.meaning.specs.Value.{nothing, bounds, bounds_of}
+use Rattle.meaning.specs.Value.{nothing, bounds_of}
 use Rattle.meaning.specs.Answer.{Verdict, accepted, refused, value_limit, outcome, told, answer, stored, table_after}
 use Rattle.runs.proofs.Reached.{length_bounds}
 use Rattle.demands.proofs.Limit.{small_bounds}

@@ -27,7 +27,8 @@ fn in_range(deadlines: &[u64], n: usize) -> usize
 {
     let mut i: usize = 0;
     while i < n {
-        if deadlines[i] > LAST_DEADLINE {
+        let out_of_range = deadlines[i] > LAST_DEADLINE;
+        if out_of_range {
             return i;
         }
         i += 1;
@@ -66,13 +67,16 @@ pub fn margins(sheet: &[u8], table: &mut [u64], deadlines: &[u64], margins: &mut
     ensures margins_after { margins.new ≡
         margins_after (planned sheet.now table.old deadlines.now margins.old) deadlines.now margins.old }
 {
-    if table.len() < 64 {
+    let no_room = table.len() < 64;
+    if no_room {
         return Answer::Refused(1, 0);
     }
-    if deadlines.len() < 64 {
+    let few_deadlines = deadlines.len() < 64;
+    if few_deadlines {
         return Answer::Refused(13, 0);
     }
-    if margins.len() < 64 {
+    let few_margins = margins.len() < 64;
+    if few_margins {
         return Answer::Refused(13, 0);
     }
     let mut bounds: [u64; 64] = [0; 64];

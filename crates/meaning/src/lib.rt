@@ -1,3 +1,2 @@
 // Definitions and the theorems about them: specs/ and proofs/. No code.
 #![tactic(auto)]
-

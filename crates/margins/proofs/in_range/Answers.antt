@@ -7,13 +7,13 @@ use Rattle.margins.proofs.in_range.Goals as goal
 pub loop-i-init : goal.loop-i-init
 loop-i-init c = ((λ i h. absurd (not-suc-le-zero h)), omega arith)
 
-pub returns-then-deadlines-i-gt-LAST_DEADLINE : goal.returns-then-deadlines-i-gt-LAST_DEADLINE
-returns-then-deadlines-i-gt-LAST_DEADLINE c =
-    counted c.loop-i.i _ _ c.loop-i.invariant.1 c.requires c.loop-i.invariant.0 (λ l. omega (arith, c.if-deadlines-i-gt-LAST_DEADLINE.true))
+pub returns-then-out_of_range : goal.returns-then-out_of_range
+returns-then-out_of_range c =
+    counted c.loop-i.i _ _ c.loop-i.invariant.1 c.requires c.loop-i.invariant.0 (λ l. omega (arith, c.if-out_of_range.true))
 
 pub loop-i-preserved : goal.loop-i-preserved
 loop-i-preserved c =
-    (at_most_more last_deadline c.loop-i.i c.args.deadlines.now c.loop-i.invariant.0 (omega (arith, c.if-deadlines-i-gt-LAST_DEADLINE.false)), omega arith)
+    (at_most_more last_deadline c.loop-i.i c.args.deadlines.now c.loop-i.invariant.0 (omega (arith, c.if-out_of_range.false)), omega arith)
 
 pub returns : goal.returns
 returns c = counted c.loop-i.i _ _ c.loop-i.invariant.1 c.requires c.loop-i.invariant.0 (λ l. omega arith)

@@ -2,25 +2,25 @@
 use Rattle.std.proofs.Common.{ℕ, ℤ, List, ◌≡◌, ◌≤◌, length, take, ltb, arith, rules}
 use borrow.Author.Tests.{lt-ltb, le-ltb}
 use Rattle.meaning.specs.Format.{pick}
-use Rattle.meaning.specs.Answer.{Verdict, answer, outcome, table_after}
+use Rattle.meaning.specs.Answer.{Verdict, answer, table_after}
 use Rattle.calculator.specs.Promises.{filled}
 use Rattle.margins.specs.Steps.{in_range}
 use Rattle.margins.proofs.Plans.{Long, filled_so, no_room_lem, short_deadlines, short_margins, Judged, may_write, out_of_range, all_in_range}
 use Rattle.margins.proofs.margins.Goals as goal
 
-pub returns-then-table-lt64 : goal.returns-then-table-lt64
-returns-then-table-lt64 c =
-    let plans = no_room_lem c.args.sheet.now c.args.table.now c.args.deadlines.now c.args.margins.now c.if-table-lt64.true in
+pub returns-then-no_room : goal.returns-then-no_room
+returns-then-no_room c =
+    let plans = no_room_lem c.args.sheet.now c.args.table.now c.args.deadlines.now c.args.margins.now c.if-no_room.true in
     record { result_value = plans.0; table_after = plans.1.0; margins_after = plans.1.1 }
 
-pub returns-then-deadlines-lt64 : goal.returns-then-deadlines-lt64
-returns-then-deadlines-lt64 c =
-    let plans = short_deadlines c.args.sheet.now c.args.table.now c.args.deadlines.now c.args.margins.now c.if-table-lt64.false c.if-deadlines-lt64.true in
+pub returns-then-few_deadlines : goal.returns-then-few_deadlines
+returns-then-few_deadlines c =
+    let plans = short_deadlines c.args.sheet.now c.args.table.now c.args.deadlines.now c.args.margins.now c.if-no_room.false c.if-few_deadlines.true in
     record { result_value = plans.0; table_after = plans.1.0; margins_after = plans.1.1 }
 
-pub returns-then-margins-lt64 : goal.returns-then-margins-lt64
-returns-then-margins-lt64 c =
-    let plans = short_margins c.args.sheet.now c.args.table.now c.args.deadlines.now c.args.margins.now c.if-table-lt64.false c.if-deadlines-lt64.false (omega (arith, c.if-margins-lt64.true)) in
+pub returns-then-few_margins : goal.returns-then-few_margins
+returns-then-few_margins c =
+    let plans = short_margins c.args.sheet.now c.args.table.now c.args.deadlines.now c.args.margins.now c.if-no_room.false c.if-few_deadlines.false (omega (arith, c.if-few_margins.true)) in
     record { result_value = plans.0; table_after = plans.1.0; margins_after = plans.1.1 }
 
 -- what is known once the routines to write are counted
@@ -41,7 +41,7 @@ judged s table deadlines margins long before room said routines stored few own_l
 pub write_out-requires-clause-at_most : goal.write_out-requires-clause-at_most
 write_out-requires-clause-at_most c =
     let known = judged c.args.sheet.now c.args.table.now c.args.deadlines.now c.args.margins.now
-    (record { room = c.if-table-lt64.false; for_deadlines = c.if-deadlines-lt64.false; for_margins = c.if-margins-lt64.false })
+    (record { room = c.if-no_room.false; for_deadlines = c.if-few_deadlines.false; for_margins = c.if-few_margins.false })
     _ (search rules) c.fill-filled.ensures.answer_value c.fill-filled.ensures.routines_value c.fill-filled.ensures.table_after
     c.fill-filled.ensures.routines_bound (search rules) c.in_range-good.ensures c.all_or_none-written.ensures in
     (may_write _ _ _ _ known).1
@@ -49,7 +49,7 @@ write_out-requires-clause-at_most c =
 pub returns-then-bad : goal.returns-then-bad
 returns-then-bad c =
     let known = judged c.args.sheet.now c.args.table.now c.args.deadlines.now c.args.margins.now
-    (record { room = c.if-table-lt64.false; for_deadlines = c.if-deadlines-lt64.false; for_margins = c.if-margins-lt64.false })
+    (record { room = c.if-no_room.false; for_deadlines = c.if-few_deadlines.false; for_margins = c.if-few_margins.false })
     _ (search rules) c.fill-filled.ensures.answer_value c.fill-filled.ensures.routines_value c.fill-filled.ensures.table_after
     c.fill-filled.ensures.routines_bound (search rules) c.in_range-good.ensures c.all_or_none-written.ensures in
     let plans = out_of_range _ _ _ _ known c.write_out.ensures.table_after c.write_out.ensures.margins_after (lt-ltb _ _ c.if-bad.true) in
@@ -58,7 +58,7 @@ returns-then-bad c =
 pub returns : goal.returns
 returns c =
     let known = judged c.args.sheet.now c.args.table.now c.args.deadlines.now c.args.margins.now
-    (record { room = c.if-table-lt64.false; for_deadlines = c.if-deadlines-lt64.false; for_margins = c.if-margins-lt64.false })
+    (record { room = c.if-no_room.false; for_deadlines = c.if-few_deadlines.false; for_margins = c.if-few_margins.false })
     _ (search rules) c.fill-filled.ensures.answer_value c.fill-filled.ensures.routines_value c.fill-filled.ensures.table_after
     c.fill-filled.ensures.routines_bound (search rules) c.in_range-good.ensures c.all_or_none-written.ensures in
     let plans = all_in_range _ _ _ _ known c.write_out.ensures.table_after c.write_out.ensures.margins_after (le-ltb _ _ c.if-bad.false) in
