@@ -228,7 +228,10 @@ fn main(rt: HostRuntime) {
     let n = console::read_full(&mut rt.stdin(), &mut input);
     entries(&rt, &input[..n]);
     // the first 20 bytes of case b
-    entries(&rt, b"\x0C\x00\x64\x00\x01\x00\x00\x00\x01\x00\x00\x00\x08\x00\x01\x00\x05\x00\x00\x00");
+    entries(
+        &rt,
+        b"\x0C\x00\x64\x00\x01\x00\x00\x00\x01\x00\x00\x00\x08\x00\x01\x00\x05\x00\x00\x00",
+    );
     deadlines(&rt, &input[..n]);
     lists(&rt, &input[..n]);
     lists(&rt, first(&input, 60001));

@@ -3,9 +3,8 @@
 
 use std::env::FillError;
 use std::fs::File;
-use std::io;
 use std::rt::Env;
-use std::str;
+use std::{io, str};
 
 // The system's numbers for a name that is too long, and for one that is no text.
 const NAME_TOO_LONG: i32 = 36;
