@@ -33,7 +33,7 @@ const MARK: usize = 2;
 const CONSTRUCTS: usize = 3;
 
 // The answer: the task's bound, or a refusal's number and place.
-#[derive(Drop)]
+#[derive(Clone, Copy)]
 pub enum Answer {
     Accepted(u64),
     Refused(u64, usize),

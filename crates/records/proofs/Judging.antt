@@ -150,12 +150,12 @@ module _ {A : Type 0} (refuses : ℕ → ℕ → A) (good : ℕ → ℕ → ℕ 
     length_law kind (p ∷ []) few h =
         let past : at + 4 + 4 ≡ at + 8 = omega arith in
         rw (fields_one s (at + 4), left_short s at 4 4 (omega arith), drop-drop 4 at s, past) (
-        sized_law kind _ (eqb (two (drop at s)) 8) (ltb (length (drop at s)) 8) _ _ (
+        sized_law kind (form_for (p ∷ [])) (eqb (two (drop at s)) 8) (ltb (length (drop at s)) 8) _ _ (
         rest_law (at + 8) (p ∷ []) (of kind (four (drop (at + 4) s) ∷ [])) h (one_outside p _)))
     length_law kind (p ∷ q ∷ []) few h =
         let past : at + 4 + 8 ≡ at + 12 = omega arith in
         rw (fields_both s (at + 4), left_short s at 4 8 (omega arith), drop-drop 4 at s, past) (
-        sized_law kind _ (eqb (two (drop at s)) 12) (ltb (length (drop at s)) 12) _ _ (
+        sized_law kind (form_for (p ∷ q ∷ [])) (eqb (two (drop at s)) 12) (ltb (length (drop at s)) 12) _ _ (
         rest_law (at + 12) (p ∷ q ∷ []) (of kind (four (drop (at + 4) s) ∷ four (drop 4 (drop (at + 4) s)) ∷ [])) h (two_outside p q _ _)))
     length_law kind (p ∷ q ∷ r ∷ rs) few h = absurd few
 

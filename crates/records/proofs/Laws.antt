@@ -10,7 +10,7 @@ use lib.Seq.{get_or-drop, drop-drop}
 use lib.Dec.{ltb}
 use native.Mathlib.Omega.{arith}
 use borrow.Author.Tests.{ltb-true, ltb-false, lt-ltb, le-ltb}
-use Rattle.meaning.specs.Format.{pick, field}
+use Rattle.meaning.specs.Format.{pick}
 use Rattle.meaning.specs.Judgement.{two, four}
 use Rattle.records.specs.declared.Field.{Field}
 use Rattle.records.specs.declared.Field.TheVariants as field

@@ -7,7 +7,7 @@ ghost use Rattle.records.specs.Records.{construct_as, head_of, found_of, leaf_of
 ghost use Rattle.records.specs.Steps.{field_at, fields_at, form_of, is_outside, is_bad_call, misplaced, marker_fault, judge_of, only_of};
 
 // The reading place, handed from one record to the next by value.
-#[derive(Drop)]
+#[derive(Clone, Copy)]
 pub struct Cursor {
     pub at: usize,
 }
@@ -343,7 +343,8 @@ impl Cursor {
         let Field::Value(first, next) = c.word(s) else {
             return Leaf::Other;
         };
-        if head == 131080 {
+        let is_primitive = head == 131080;
+        if is_primitive {
             return Leaf::Primitive(first, next);
         }
         if head == 524296 {
@@ -353,10 +354,12 @@ impl Cursor {
             return Leaf::Call(first, next);
         }
         if head == 589836 {
-            if standing != 5 {
+            let strays = standing != 5;
+            if strays {
                 return Leaf::Other;
             }
-            if 1000000 < first {
+            let over = 1000000 < first;
+            if over {
                 return Leaf::Other;
             }
             let Field::Value(second, past) = next.word(s) else {

@@ -66,6 +66,7 @@ one_branch n = (to, from)
     one_of : {y : ℕ} {t u : Tally} → Taken begin (P 9 then S [] then end) y t u → y ≡ 9 ⊎ y ≡ 0
     one_of (this r e e') = inl (cost_only r)
     one_of (other (this (children done) e e') f f') = inr refl
+    one_of {y = y} {t = t} {u = u} (other {v = v} {w = w} (other x22 _ _) f f') = elim x22 [ ]
 
     sort : {m x y : ℕ} → x ≡ 2 → m ≡ x + y → y ≡ 9 ⊎ y ≡ 0 → m ≡ 11 ⊎ m ≡ 2
     sort c e (inl h) = inl (omega arith)
@@ -239,6 +240,7 @@ case_l n = loop_most (record { count = 10; scope = true }) _ (S []) 7 round idle
     branch (this r e e') = let x = marked_only r in omega arith
     branch (other (this r e e') f f') = let x = marked_only r in omega arith
     branch (other (other (this (children done) e e') f f') g g') = omega arith
+    branch {m = m} {t = t} {u = u} (other {v = v} {w = w} (other (other x28 _ _) f f') g g') = elim x28 [ ]
 
     round : Most (alternative (P 0) (S (M 10 0 ∷ P 7 ∷ []) then S (M 10 0 ∷ P 6 ∷ []) then S [] then end)) 7
     round m t (choose r s e e') = let x = cost_only r in let y = branch s in omega arith
@@ -256,10 +258,12 @@ nested n = loop_most (record { count = 2; scope = true }) _ (P 0) 5 round idle n
     within : Most inner 5
     within m t (choose r (this s e1 e2) e e') = let x = cost_only r in let y = marked_only s in omega arith
     within m t (choose r (other (this s e1 e2) f f') e e') = let x = cost_only r in let y = cost_only s in omega arith
+    within m t (choose {y = y} {u = u} {v = v} r (other {w = w} (other x31 _ _) f f') e e') = elim x31 [ ]
 
     round : Most (A (P 0) (inner ∷ P 3 ∷ [])) 5
     round m t (choose r (this s e1 e2) e e') = let x = cost_only r in let y = within _ _ s in omega arith
     round m t (choose r (other (this s e1 e2) f f') e e') = let x = cost_only r in let y = cost_only s in omega arith
+    round m t (choose {y = y} {u = u} {v = v} r (other {w = w} (other x31 _ _) f f') e e') = elim x31 [ ]
 
     idle : Most (P 0) 0
     idle m t r = let x = cost_only r in omega arith

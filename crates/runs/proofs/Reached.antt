@@ -14,7 +14,7 @@ use Rattle.meaning.specs.Value.{marked_in, charges, charges_in, bound, knowing, 
 use Rattle.meaning.specs.Legal.{Reach, nowhere, first_child, later_child, as_branch, as_body, Plain, Fit, Legal, Legals, LegalRoutines, LegalSheet}
 use Rattle.meaning.proofs.Laws.{pick_true, within_is}
 use Rattle.runs.specs.Run.{Tally, never, ◌⊕◌, Within, empty, limits, limits_in, handed, scope, Spends, World}
-use Rattle.runs.specs.Run.{Run, Runs, Rounds, Again, Tested, Takes, takes, allowed, RoutineTakes}
+use Rattle.runs.specs.Run.{Run, Runs, Rounds, Again, Tested, Takes, takes, joined, allowed, RoutineTakes}
 use Rattle.runs.specs.Run.{act, pass, children, choose, head, tail, timeout, enter, done, next, overrun, stop, again, tested}
 use Rattle.runs.specs.Premise.{One, Single, Singles, SingleRoutines, SingleSheet}
 use Rattle.runs.proofs.Tallies.{excess_of, all_branches, all_limits, Fits, fits, branches_append}
@@ -206,9 +206,9 @@ reached_routines : {world : World} {known : Known} (before : ℕ) → before ≡
     SingleRoutines rs → Along Attains world.earlier known.bounds → Along Attains (allowed world rs).earlier (bounds known rs).bounds
 unfolding allowed bounds
 reached_routines before all [] h s a = a
-reached_routines {world} {known} before all (r ∷ rs) h s a =
-    reached_routines (before + 1) (let n = length-append known.bounds (bound known r ∷ []) in omega arith) rs h.2 s.1
-    (along_end a (reached_routine world known before all a r h.1 s.0))
+reached_routines {world = world} {known = known} before all (r ∷ rs) h s a =
+    reached_routines {world = joined world (Takes world r)} {known = knowing known (bound known r)} (before + 1)
+    (let n = length-append known.bounds (bound known r ∷ []) in omega arith) rs h.2 s.1 (along_end a (reached_routine world known before all a r h.1 s.0))
 
 -- every routine has a bound
 pub length_bounds : (known : Known) (rs : List Routine) → length (bounds known rs).bounds ≡ length known.bounds + length rs

@@ -8,9 +8,9 @@ use native.Mathlib.Omega.{arith}
 use native.Mathlib.Nat.{mul-le-mul_right, le_trans}
 use Rattle.meaning.specs.Tree.{Loop, Marker, Construct, Constructs, Routine, Sheet, mark, seen_outside}
 use Rattle.meaning.specs.Value.{Marked, Charge, total, times, marked, larger, charged, evaluation, rounds, Known}
-use Rattle.meaning.specs.Value.{value, sum, largest, marked_in, charges, charges_in, bound, bounds, bound_at}
+use Rattle.meaning.specs.Value.{value, sum, largest, marked_in, charges, charges_in, bound, knowing, bounds, bound_at}
 use Rattle.runs.specs.Run.{Tally, never, once, ◌⊕◌, limits, Entry, handed, scope, World, Never, Run}
-use Rattle.runs.specs.Run.{Runs, Taken, Rounds, Again, Tested, Takes, takes, allowed, RoutineTakes}
+use Rattle.runs.specs.Run.{Runs, Taken, Rounds, Again, Tested, Takes, takes, joined, allowed, RoutineTakes}
 use Rattle.runs.specs.Run.{act, pass, children, choose, head, tail, wait, timeout, enter}
 use Rattle.runs.specs.Run.{done, next, this, other, without, overrun, stop, again, tested}
 use Rattle.runs.proofs.Tallies.{excess_of, all_branches, all_limits, all_passes, Paired, pair, pairs, Fits}
@@ -192,7 +192,8 @@ sound_routines : {world : World} {known : Known} (rs : List Routine) → Along A
     Along AtMost (allowed world rs).earlier (bounds known rs).bounds
 unfolding allowed bounds
 sound_routines [] a = a
-sound_routines {world} {known} (r ∷ rs) a = sound_routines rs (along_end a (sound_routine world known a r))
+sound_routines {world = world} {known = known} (r ∷ rs) a =
+    sound_routines {world = joined world (Takes world r)} {known = knowing known (bound known r)} rs (along_end a (sound_routine world known a r))
 
 pub sheet_sound : (s : Sheet) (number n : ℕ) → RoutineTakes s number n → n ≤ bound_at s number
 sheet_sound s number = along_at (sound_routines s.routines none') number (inl no_run)
