@@ -1,5 +1,5 @@
 -- `put` has put the first i bytes so far.
-use Rattle.std.proofs.Common.{◌-◌, ◌≡◌, ◌≤◌, length, take}
+use Rattle.std.proofs.Common.{◌-◌, ◌≡◌, ◌≤◌, take}
 use Rattle.std.proofs.lemmas.List.Edits.{sets}
 use Rattle.lines.proofs.put.Given as goal
 

@@ -1,5 +1,5 @@
 -- `put_routines` has put the lines of the first i routines so far.
-use Rattle.std.proofs.Common.{◌-◌, ◌≡◌, ◌*◌, ◌≤◌, take}
+use Rattle.std.proofs.Common.{◌-◌, ◌*◌, ◌≤◌, take}
 use Rattle.lines.specs.Output.{routine_lines}
 use Rattle.lines.proofs.Laws.{Put}
 use Rattle.lines.proofs.put_routines.Given as goal
