@@ -1,13 +1,12 @@
 -- How the children of a record are read, by its kind: how child i stands, and its passes.
 use Prim.Native.Nat.{ℕ, ◌+◌, min}
-use mathlib.Core.Path.{◌≡◌, refl, ap, ◌∙◌}
+use mathlib.Core.Path.{◌≡◌, refl}
 use mathlib.Core.Bool.{Bool, true, false}
 use lib.Dec.{eqb}
 use borrow.Author.Tests.{eqb-true, ne_eqb}
 use native.Mathlib.Omega.{arith}
 use Rattle.meaning.specs.Format.{pick}
 use Rattle.records.specs.declared.Cursor.{Cursor}
-use Rattle.reader.specs.Tallies.{Parsed}
 use Rattle.reader.specs.Ways.{lead_of, body_of, inner_of, ways, ways_of, way_of}
 use Rattle.reader.specs.Reader.{ChildReader, owner_of, child_of}
 use Rattle.reader.proofs.Laws.{pick_same}

@@ -7,8 +7,7 @@ pub mod Going
 pub mod Summing
 pub mod Branches
 pub mod Timed
-pub mod Lending
+pub mod Reading
 pub mod Under
 pub mod Few
 pub mod Determined
-pub mod Depths

@@ -138,6 +138,7 @@ fn charges(marks: &[u64], product: u64, plain: u64) -> u64
 }
 
 // How the first child of a sequence stands: a marker may lead a branch.
+#[tactic(auto, unfolding(crate::specs::Ways::lead_of))]
 fn lead_of(standing: u64) -> u64
     ensures { result ≡ lead_of standing }
 {
@@ -149,6 +150,7 @@ fn lead_of(standing: u64) -> u64
 }
 
 // How the body of a counted loop stands: scope 1 opens a scope, scope 0 keeps one that no alternative stands in.
+#[tactic(auto, unfolding(crate::specs::Ways::body_of))]
 fn body_of(scope: u64, standing: u64) -> u64
     ensures { result ≡ body_of scope standing }
 {
@@ -159,6 +161,7 @@ fn body_of(scope: u64, standing: u64) -> u64
 }
 
 // The passes that the counts allow inside a counted loop; no limit is over 1,000,000.
+#[tactic(auto, unfolding(crate::specs::Ways::inner_of))]
 fn inner_of(count: u64, scope: u64, product: u64) -> u64
     requires { (count ≤ 1000000) × (product ≤ 1000000) }
     ensures { (result ≡ inner_of count scope product) × (result ≤ 1000000) }
@@ -170,6 +173,7 @@ fn inner_of(count: u64, scope: u64, product: u64) -> u64
 }
 
 // What child i adds to its owner's value: a head loop's condition runs once more than its body, a tail loop's as often.
+#[tactic(auto, unfolding(crate::specs::Tallies::counted))]
 fn counted(kind: u64, count: u64, i: u64, v: u64) -> u64
     requires counts { Counts kind count }
     requires v_le_value_limit { v ≤ value_limit }
@@ -200,6 +204,7 @@ fn topped(top: u64, i: u64, v: u64, mark: u64) -> u64
 }
 
 // Child i of an alternative, if it is a marked branch, kept after those that are held: its value and its limit. The number then held.
+#[tactic(auto, unfolding(crate::specs::Tallies::kept_of))]
 fn keep(marks: &mut [u64], held: usize, i: u64, v: u64, mark: u64) -> usize
     requires { (held < length marks.old) × (v ≤ value_limit) × (1 ≤ i → mark ≤ 1000001) }
     ensures value { result ≡ length (kept_of 4 i v mark (take held marks.old)) }
@@ -720,6 +725,7 @@ fn routine(
 }
 
 impl Bounds {
+    #[tactic(auto, unfolding(crate::specs::Reader::no_bounds))]
     fn none() -> Bounds
         ensures { result ≡ no_bounds }
     {
@@ -733,6 +739,7 @@ impl Bounds {
 
 impl Progress {
     // Before the first routine of a sheet of so many bytes.
+    #[tactic(auto, unfolding(crate::specs::Reader::progress_from))]
     fn from(long: usize, c: Cursor) -> Progress
         ensures { result ≡ progress_from long c }
     {
@@ -746,6 +753,7 @@ impl Progress {
     }
 
     // One routine more; where it is the one asked for, its places.
+    #[tactic(auto, unfolding(crate::specs::Reader::progress_with))]
     fn with(self, own: u64, number: u64, value: u64, over: usize, next: Cursor) -> Progress
         ensures { result ≡ progress_with self own number value over next }
     {
@@ -761,6 +769,7 @@ impl Progress {
 }
 
 // A refusal, with no part.
+#[tactic(auto, unfolding(crate::specs::Reader::refusal))]
 fn refused(long: usize, number: u64, place: usize) -> Reply
     ensures { result ≡ refusal long number place }
 {
@@ -772,6 +781,7 @@ fn refused(long: usize, number: u64, place: usize) -> Reply
 }
 
 // EXTRA, then TOO BIG, then the last routine's bound.
+#[tactic(auto, unfolding(crate::specs::Reader::verdict_of))]
 fn verdict(long: usize, progress: Progress) -> Reply
     ensures { result ≡ verdict_of long progress }
 {
@@ -859,6 +869,7 @@ fn middling(s: &[u8], number: u64) -> Report
 }
 
 // A sheet read once: the answer, the bounds, and where the routine of a number stands.
+#[tactic(auto, unfolding(crate::specs::Reader::read_of))]
 pub fn read(s: &[u8], number: u64) -> Report
     ensures { result ≡ read_of s.now number }
 {

@@ -108,6 +108,7 @@ fn row(length: u64, least: u64, most: u64, least2: u64, most2: u64) -> Form
 }
 
 // Whether a field lies outside its range.
+#[tactic(auto, unfolding(crate::specs::Steps::is_outside))]
 fn is_outside(f: Form, first: u64, second: u64) -> bool
     ensures { result ≡ is_outside f first second }
 {
@@ -124,6 +125,7 @@ fn is_outside(f: Form, first: u64, second: u64) -> bool
 }
 
 // Whether a record calls no routine before its own.
+#[tactic(auto, unfolding(crate::specs::Steps::is_bad_call))]
 fn is_bad_call(kind: u64, first: u64, own: u64) -> bool
     ensures { result ≡ is_bad_call kind first own }
 {
@@ -137,6 +139,7 @@ fn is_bad_call(kind: u64, first: u64, own: u64) -> bool
 }
 
 // STRAY MARKER or NO PLAIN BRANCH, or 0 for a marker that may stand here.
+#[tactic(auto, unfolding(crate::specs::Steps::marker_fault))]
 fn marker_fault(standing: u64) -> u64
     ensures { result ≡ marker_fault standing }
 {
@@ -148,6 +151,7 @@ fn marker_fault(standing: u64) -> u64
 }
 
 // BAD CALL, TOO DEEP, STRAY MARKER or NO PLAIN BRANCH, or 0.
+#[tactic(auto, unfolding(crate::specs::Steps::misplaced))]
 fn misplaced(kind: u64, first: u64, own: u64, left: u64, standing: u64) -> u64
     ensures { result ≡ misplaced kind first own left standing }
 {
@@ -184,6 +188,7 @@ impl Cursor {
     }
 
     // One field, or two.
+    #[tactic(auto, unfolding(crate::specs::Steps::fields_at))]
     fn fields(self, s: &[u8], both: bool) -> Fields
         requires { self.at ≤ length s.now }
         ensures { result ≡ fields_at s.now self.at both }
@@ -201,6 +206,7 @@ impl Cursor {
     }
 
     // The rest of a record of this kind, whose row is f, from its length on.
+    #[tactic(auto, unfolding(crate::specs::Steps::judge_of))]
     fn judge(self, s: &[u8], kind: u64, size: u64, f: Form, p: Place) -> Fit
         requires { (self.at ≤ length s.now) × (f ≡ form_of kind) }
         ensures { result ≡ judge_of s.now self.at kind size (form_of kind) p.own p.left p.standing }

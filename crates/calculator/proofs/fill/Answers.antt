@@ -16,13 +16,13 @@ copy_out-requires c = (rw c.read-report.ensures (few_read c.args.sheet.now 0).fe
 pub returns-then-is_accepted : goal.returns-then-is_accepted
 returns-then-is_accepted c =
     let fills =
-        accepts c.args.table.now c.if-table-lt64.false {report = c.read-report.result} (rw c.read-report.ensures (read_law c.args.sheet.now 0))
-        (sym c.if-is_accepted.ensures) (rw c.read-report.ensures (few_read c.args.sheet.now 0).few) c.copy_out.ensures in
+    accepts c.args.table.now c.if-table-lt64.false {report = c.read-report.result} (rw c.read-report.ensures (read_law c.args.sheet.now 0))
+    (sym c.if-is_accepted.ensures) (rw c.read-report.ensures (few_read c.args.sheet.now 0).few) c.copy_out.ensures in
     record { answer_value = fills.0; routines_value = fills.1.0; constructs_value = fills.1.1.0; table_after = fills.1.1.1.0; routines_bound = fills.1.1.1.1 }
 
 pub returns : goal.returns
 returns c =
     let fills =
-        refuses c.args.table.now c.if-table-lt64.false {report = c.read-report.result} (rw c.read-report.ensures (read_law c.args.sheet.now 0))
-        (sym c.if-is_accepted.ensures) in
+    refuses c.args.table.now c.if-table-lt64.false {report = c.read-report.result} (rw c.read-report.ensures (read_law c.args.sheet.now 0))
+    (sym c.if-is_accepted.ensures) in
     record { answer_value = fills.0; routines_value = fills.1.0; constructs_value = fills.1.1.0; table_after = fills.1.1.1.0; routines_bound = fills.1.1.1.1 }

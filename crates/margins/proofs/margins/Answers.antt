@@ -41,26 +41,25 @@ judged s table deadlines margins long before room said routines stored few own_l
 pub write_out-requires-clause-at_most : goal.write_out-requires-clause-at_most
 write_out-requires-clause-at_most c =
     let known = judged c.args.sheet.now c.args.table.now c.args.deadlines.now c.args.margins.now
-        (record { room = c.if-table-lt64.false; for_deadlines = c.if-deadlines-lt64.false; for_margins = c.if-margins-lt64.false })
-        _ (search rules) c.fill-filled.ensures.answer_value c.fill-filled.ensures.routines_value c.fill-filled.ensures.table_after
-        c.fill-filled.ensures.routines_bound (search rules) c.in_range-good.ensures c.all_or_none-written.ensures in
+    (record { room = c.if-table-lt64.false; for_deadlines = c.if-deadlines-lt64.false; for_margins = c.if-margins-lt64.false })
+    _ (search rules) c.fill-filled.ensures.answer_value c.fill-filled.ensures.routines_value c.fill-filled.ensures.table_after
+    c.fill-filled.ensures.routines_bound (search rules) c.in_range-good.ensures c.all_or_none-written.ensures in
     (may_write _ _ _ _ known).1
 
 pub returns-then-bad : goal.returns-then-bad
 returns-then-bad c =
     let known = judged c.args.sheet.now c.args.table.now c.args.deadlines.now c.args.margins.now
-        (record { room = c.if-table-lt64.false; for_deadlines = c.if-deadlines-lt64.false; for_margins = c.if-margins-lt64.false })
-        _ (search rules) c.fill-filled.ensures.answer_value c.fill-filled.ensures.routines_value c.fill-filled.ensures.table_after
-        c.fill-filled.ensures.routines_bound (search rules) c.in_range-good.ensures c.all_or_none-written.ensures in
+    (record { room = c.if-table-lt64.false; for_deadlines = c.if-deadlines-lt64.false; for_margins = c.if-margins-lt64.false })
+    _ (search rules) c.fill-filled.ensures.answer_value c.fill-filled.ensures.routines_value c.fill-filled.ensures.table_after
+    c.fill-filled.ensures.routines_bound (search rules) c.in_range-good.ensures c.all_or_none-written.ensures in
     let plans = out_of_range _ _ _ _ known c.write_out.ensures.table_after c.write_out.ensures.margins_after (lt-ltb _ _ c.if-bad.true) in
     record { result_value = plans.0; table_after = plans.1.0; margins_after = plans.1.1 }
 
 pub returns : goal.returns
 returns c =
     let known = judged c.args.sheet.now c.args.table.now c.args.deadlines.now c.args.margins.now
-        (record { room = c.if-table-lt64.false; for_deadlines = c.if-deadlines-lt64.false; for_margins = c.if-margins-lt64.false })
-        _ (search rules) c.fill-filled.ensures.answer_value c.fill-filled.ensures.routines_value c.fill-filled.ensures.table_after
-        c.fill-filled.ensures.routines_bound (search rules) c.in_range-good.ensures c.all_or_none-written.ensures in
+    (record { room = c.if-table-lt64.false; for_deadlines = c.if-deadlines-lt64.false; for_margins = c.if-margins-lt64.false })
+    _ (search rules) c.fill-filled.ensures.answer_value c.fill-filled.ensures.routines_value c.fill-filled.ensures.table_after
+    c.fill-filled.ensures.routines_bound (search rules) c.in_range-good.ensures c.all_or_none-written.ensures in
     let plans = all_in_range _ _ _ _ known c.write_out.ensures.table_after c.write_out.ensures.margins_after (le-ltb _ _ c.if-bad.false) in
     record { result_value = plans.0; table_after = plans.1.0; margins_after = plans.1.1 }
-

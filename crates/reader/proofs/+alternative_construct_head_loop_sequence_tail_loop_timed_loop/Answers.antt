@@ -1,21 +1,22 @@
--- The readers of constructs and of their lists meet their contracts.
-use Rattle.std.proofs.Common.{ℕ, ◌≡◌, ◌+◌, ◌-◌, ◌<◌, refl, sym, ap, ◌∙◌, length, set, arith}
+-- The readers of constructs and of their lists meet their contracts. Of the list that `f` reads, `f_child_is` says how a child is read, and
+-- `f_once` and `f_built` what is told of one that was read at once or by `construct`: its loop keeps `Summing` or `Branching` by that.
+use Rattle.std.proofs.Common.{ℕ, ◌≡◌, ◌+◌, ◌-◌, ◌<◌, refl, sym, ap, length, set, arith}
 use Rattle.reader.specs.declared.Parsed.TheVariants as parsed
 use Rattle.reader.specs.Tallies.{aside_is, aside_paid, counted, Valued, a_value, a_refusal}
 use Rattle.reader.specs.Reader.{owner_of, child_of, owned_of, construct_of}
 use Rattle.reader.proofs.Laws.{no_loop}
-use Rattle.reader.proofs.Tells.{told_as, told_from, told_ended, tells_as, fits_as, valued_small, tells_value, tells_refusal, quickly_value, quickly_other}
+use Rattle.reader.proofs.Tells.{told_from, told_ended, tells_as, valued_small, tells_refusal}
 use Rattle.reader.proofs.Children.{sequence_child, alternative_child, head_child, tail_child}
-use Rattle.reader.proofs.Constructs.{owner, refuses, primitive_alone, call_alone, marker_alone, set_mark, set_four, call_range, marker_range}
+use Rattle.reader.proofs.Constructs.{owner, refuses, primitive_alone, call_alone, marker_alone, set_mark, call_range, marker_range}
 use Rattle.reader.proofs.Constructs.{sequence_range, alternative_range, head_range, tail_range, timed_range, within_list}
-use Rattle.reader.proofs.Lending.{lent_once, lent_on}
-use Rattle.reader.proofs.Going.{going_fits, few_valued, held_room, still_below, child_refused}
-use Rattle.reader.proofs.Summing.{paid_is, summing_first, summing_from, summing_fits, summing_small, summing_more, summing_ends}
-use Rattle.reader.proofs.Branches.{lent_to, lent_to_fits, child_lent, end_constructs, end_told, mark_added}
-use Rattle.reader.proofs.Branches.{branching_first, branching_next, branch_room, branch_mark, branching_small, branching_fits, branching_ends}
+use Rattle.reader.proofs.Reading.{read_once, read_next, list_tells}
+use Rattle.reader.proofs.Going.{still_below}
+use Rattle.reader.proofs.Summing.{paid_is, summing_first, summing_from, summing_fits, summing_more, summing_ends}
+use Rattle.reader.proofs.Branches.{lent_to, child_lent, end_told}
+use Rattle.reader.proofs.Branches.{branching_first, branching_next, branch_room, branch_mark, branching_ends}
 use Rattle.reader.proofs.Timed.{timed_refused, timed_few, timed_ends}
 use Rattle.reader.proofs.+alternative_construct_head_loop_sequence_tail_loop_timed_loop.Goals as goal
-use Rattle.reader.proofs.+alternative_construct_head_loop_sequence_tail_loop_timed_loop.Goals.{alternative-After-choose-in-loop-i, alternative-After-keep-arg-1, alternative-After-keep-arg-in-Value-construct-1}
+use Rattle.reader.proofs.+alternative_construct_head_loop_sequence_tail_loop_timed_loop.Goals.{alternative-After-choose-in-loop-i, alternative-In-Value, alternative-In-Value-construct}
 use Rattle.reader.proofs.+alternative_construct_head_loop_sequence_tail_loop_timed_loop.Goals.{sequence-After-choose-way, sequence-In-Value, sequence-In-Value-construct}
 use Rattle.reader.proofs.+alternative_construct_head_loop_sequence_tail_loop_timed_loop.Goals.{head_loop-After-choose-way, head_loop-In-Value}
 use Rattle.reader.proofs.+alternative_construct_head_loop_sequence_tail_loop_timed_loop.Goals.{tail_loop-After-choose-way, tail_loop-In-Value}
@@ -139,8 +140,8 @@ sequence_once : {t : ℕ} (c : sequence-In-Value t) →
     (child_of (construct_of a.left a.s.now a.bounds.now a.own) (owner_of 3 a.n 0 a.start a.standing a.product) l.i (a.held - a.held) l.at)
     (parsed.Value c.in-Value.v c.in-Value.next) (aside_is c.at_once.new.aside)
 sequence_once {t} c =
-    let is = sequence_child_is (goal.at.sequence-overflow_add-sum t c).After-choose-way in
-    told_as is (quickly_value c.in-Value.ensures.quickly refl c.args.product)
+    let is = sequence_child_is (goal.at.sequence-In-Value t c).After-choose-way in
+    read_once c.in-Value.ensures.quickly c.args.product is
 
 sequence_built : {t : ℕ} (c : sequence-In-Value-construct t) →
     let a = c.args in
@@ -149,16 +150,13 @@ sequence_built : {t : ℕ} (c : sequence-In-Value-construct t) →
     (child_of (construct_of a.left a.s.now a.bounds.now a.own) (owner_of 3 a.n 0 a.start a.standing a.product) l.i (a.held - a.held) l.at)
     (parsed.Value c.in-Value-construct.v c.in-Value-construct.next) (aside_is c.construct.new.aside)
 sequence_built {t} c =
-    let is = sequence_child_is (goal.at.sequence-loop-i-preserved t c).After-choose-way in
-    told_from (quickly_other c.in-Other.ensures.quickly refl) (told_as is (tells_value c.in-Value-construct.ensures.tells refl))
+    let is = sequence_child_is (goal.at.sequence-In-Value-construct t c).After-choose-way in
+    read_next c.in-Other.ensures.quickly is c.in-Value-construct.ensures.tells
 
 pub sequence-loop-i-init : goal.sequence-loop-i-init
 sequence-loop-i-init t c =
     let p = c.requires.lent in
     (summing_first _ _ _ _ _ _ _ _ p.kept c.requires.within p.fits, p.four)
-
-pub sequence-at_once-requires : goal.sequence-at_once-requires
-sequence-at_once-requires t c = lent_once c.requires.lent c.loop-i.invariant.1 (going_fits c.loop-i.invariant.0.going)
 
 pub sequence-overflow_add-sum : goal.sequence-overflow_add-sum
 sequence-overflow_add-sum t c =
@@ -171,25 +169,10 @@ sequence-loop-i-preserved-in-Value t c = (
   c.in-Value.ensures.aside_len,
 )
 
-pub sequence-construct-requires : goal.sequence-construct-requires
-sequence-construct-requires t c =
-    let p = c.requires.lent in
-    let g = c.loop-i.invariant.0.going in
-    let fits = fits_as (quickly_other c.in-Other.ensures.quickly refl) (going_fits g) in
-    (omega arith, lent_on p c.at_once.ensures.aside_len fits p.passes g.long g.room)
-
 pub sequence-returns-in-Refused-clause-tells : goal.sequence-returns-in-Refused-clause-tells
 sequence-returns-in-Refused-clause-tells t c =
     let is = sequence_child_is (goal.at.sequence-returns-in-Refused-clause-tells t c).After-choose-way in
-    let refused = is ∙ tells_refusal c.in-Refused.ensures.tells refl in
-    a_refusal (child_refused c.loop-i.invariant.0.going c.requires.lent.room c.loop-i-test.true refused) refl
-
-pub sequence-returns-in-Refused-clause-marks_unchanged : goal.sequence-returns-in-Refused-clause-marks_unchanged
-sequence-returns-in-Refused-clause-marks_unchanged t c = still_below _ c.loop-i.invariant.0.going c.construct.ensures.marks_unchanged
-
-pub sequence-overflow_add-sum-in-Value-construct : goal.sequence-overflow_add-sum-in-Value-construct
-sequence-overflow_add-sum-in-Value-construct t c =
-    omega (arith, summing_fits c.loop-i.invariant.0 c.loop-i-test.true (omega arith), valued_small (sequence_built c))
+    list_tells c.loop-i.invariant.0.going c.requires.lent.room c.loop-i-test.true is c.in-Refused.ensures.tells
 
 pub sequence-loop-i-preserved : goal.sequence-loop-i-preserved
 unfolding counted
@@ -199,18 +182,11 @@ sequence-loop-i-preserved t c = (
   c.construct.ensures.aside_len,
 )
 
-pub sequence-ended-requires : goal.sequence-ended-requires
-sequence-ended-requires t c =
-    (c.loop-i.invariant.1, omega (arith, few_valued c.loop-i.invariant.0.going c.requires.lent.short))
-
 pub sequence-returns-clause-tells : goal.sequence-returns-clause-tells
 sequence-returns-clause-tells t c =
     let g = c.loop-i.invariant.0 in
     told_ended c.ended.ensures.value c.ended.ensures.aside_after
     (summing_ends g {value = c.loop-i.sum} c.loop-i-test.false c.requires.lent.fits.added refl (omega arith))
-
-pub sequence-returns-clause-marks_unchanged : goal.sequence-returns-clause-marks_unchanged
-sequence-returns-clause-marks_unchanged t c = c.loop-i.invariant.0.going.below
 
 -- The condition and the branches of `alternative`, read at once or by `construct`, keep `Branching`.
 alternative_child_is : {t : ℕ} (c : alternative-After-choose-in-loop-i t) →
@@ -230,104 +206,59 @@ alternative_lends : {t : ℕ} (c : alternative-After-choose-in-loop-i t) →
     aside_is (set l.aside 2 c.choose-in-loop-i.result) ≡ lent_to (aside_is l.aside) l.i l.mark
 alternative_lends c = child_lent c.loop-i.aside _ c.loop-i.invariant.1 c.loop-i.i c.loop-i.mark c.choose-in-loop-i.ensures
 
-alternative_once : {t : ℕ} (c : alternative-After-keep-arg-1 t) →
+alternative_once : {t : ℕ} (c : alternative-In-Value t) →
     let a = c.args in
     let l = c.loop-i in
     Valued (length a.s.now) l.at.at (lent_to (aside_is l.aside) l.i l.mark)
     (child_of (construct_of a.left a.s.now a.bounds.now a.own) (owner_of 4 a.n 0 a.start a.standing a.product) l.i (l.held - a.base) l.at)
     (parsed.Value c.in-Value.v c.in-Value.next) (aside_is c.at_once.new.aside)
 alternative_once {t} c =
-    let lent = (goal.at.alternative-keep-held-requires t c).After-choose-in-loop-i in
-    told_from (alternative_lends lent) (told_as (alternative_child_is lent) (quickly_value c.in-Value.ensures.quickly refl c.args.product))
+    let lent = (goal.at.alternative-In-Value t c).After-choose-in-loop-i in
+    told_from (alternative_lends lent) (read_once c.in-Value.ensures.quickly c.args.product (alternative_child_is lent))
 
-alternative_built : {t : ℕ} (c : alternative-After-keep-arg-in-Value-construct-1 t) →
+alternative_built : {t : ℕ} (c : alternative-In-Value-construct t) →
     let a = c.args in
     let l = c.loop-i in
     Valued (length a.s.now) l.at.at (lent_to (aside_is l.aside) l.i l.mark)
     (child_of (construct_of a.left a.s.now a.bounds.now a.own) (owner_of 4 a.n 0 a.start a.standing a.product) l.i (l.held - a.base) l.at)
     (parsed.Value c.in-Value-construct.v c.in-Value-construct.next) (aside_is c.construct.new.aside)
 alternative_built {t} c =
-    let lent = (goal.at.alternative-keep-held-requires-in-Value-construct t c).After-choose-in-loop-i in
-    told_from (quickly_other c.in-Other.ensures.quickly refl ∙ alternative_lends lent)
-    (told_as (alternative_child_is lent) (tells_value c.in-Value-construct.ensures.tells refl))
+    let lent = (goal.at.alternative-In-Value-construct t c).After-choose-in-loop-i in
+    told_from (alternative_lends lent) (read_next c.in-Other.ensures.quickly (alternative_child_is lent) c.in-Value-construct.ensures.tells)
 
 pub alternative-loop-i-init : goal.alternative-loop-i-init
 alternative-loop-i-init t c =
     let p = c.requires.lent in
     (branching_first _ _ _ _ _ _ _ _ _ _ p.kept c.requires.within p.fits, p.four)
 
-pub alternative-overflow_sub-held : goal.alternative-overflow_sub-held
-alternative-overflow_sub-held t c = c.loop-i.invariant.0.going.above
-
-pub alternative-overflow_add-held : goal.alternative-overflow_add-held
-alternative-overflow_add-held t c = omega (arith, c.loop-i.invariant.0.going.room, c.requires.lent.short, c.loop-i.invariant.0.going.inside)
-
-pub alternative-at_once-requires : goal.alternative-at_once-requires
-alternative-at_once-requires t c =
-    let l = c.loop-i in
-    let lent = (goal.at.alternative-at_once-requires t c).After-choose-in-loop-i in
-    lent_once c.requires.lent (set_four l.aside _ l.invariant.1 2)
-    (fits_as (alternative_lends lent) (lent_to_fits l.i l.mark (going_fits l.invariant.0.going)))
-
 pub alternative-keep-held-requires : goal.alternative-keep-held-requires
 alternative-keep-held-requires t c =
     let g = c.loop-i.invariant.0 in
-    let w = alternative_once c in
+    let w = alternative_once (goal.at.alternative-keep-held-requires t c).In-Value in
     let spare = c.requires.lent.room in
     let more : c.loop-i.i < c.args.n + 1 = omega arith in
     (branch_room g _ w spare more refl refl, valued_small w, branch_mark g _ w spare more refl refl)
 
-pub alternative-overflow_add-sum : goal.alternative-overflow_add-sum
-alternative-overflow_add-sum t c =
-    let w = alternative_once (goal.at.alternative-overflow_add-sum t c).After-keep-arg-1 in
-    omega (arith, branching_fits c.loop-i.invariant.0 c.choose-sum.ensures (valued_small w) (omega arith) c.requires.le_n.1)
-
 pub alternative-loop-i-preserved-in-Value : goal.alternative-loop-i-preserved-in-Value
 alternative-loop-i-preserved-in-Value t c =
-    let w = alternative_once (goal.at.alternative-loop-i-preserved-in-Value t c).After-keep-arg-1 in
+    let w = alternative_once (goal.at.alternative-loop-i-preserved-in-Value t c).In-Value in
     let k = c.keep-held.ensures in (
       branching_next c.loop-i.invariant.0 c.loop-i.marks w c.requires.lent.room (omega arith) refl refl
           (k.value, (k.marks_after, k.marks_len_unchanged)) c.choose-sum.ensures c.topped-top.ensures c.choose-mark.ensures,
       c.in-Value.ensures.aside_len,
     )
 
-pub alternative-construct-requires : goal.alternative-construct-requires
-alternative-construct-requires t c =
-    let l = c.loop-i in
-    let g = l.invariant.0.going in
-    let lent = (goal.at.alternative-construct-requires t c).After-choose-in-loop-i in
-    let is = quickly_other c.in-Other.ensures.quickly refl ∙ alternative_lends lent in
-    let fits = fits_as is (lent_to_fits l.i l.mark (going_fits g)) in
-    (omega arith, lent_on c.requires.lent c.at_once.ensures.aside_len fits c.requires.lent.passes g.long g.room)
-
 pub alternative-returns-in-Refused-clause-tells : goal.alternative-returns-in-Refused-clause-tells
 alternative-returns-in-Refused-clause-tells t c =
     let is = alternative_child_is (goal.at.alternative-returns-in-Refused-clause-tells t c).After-choose-in-loop-i in
-    let refused = is ∙ tells_refusal c.in-Refused.ensures.tells refl in
-    a_refusal (child_refused c.loop-i.invariant.0.going c.requires.lent.room (omega arith) refused) refl
+    list_tells c.loop-i.invariant.0.going c.requires.lent.room (omega arith) is c.in-Refused.ensures.tells
 
 pub alternative-returns-in-Refused-clause-marks_unchanged : goal.alternative-returns-in-Refused-clause-marks_unchanged
 alternative-returns-in-Refused-clause-marks_unchanged t c = still_below _ c.loop-i.invariant.0.going c.construct.ensures.marks_unchanged
 
-pub alternative-keep-held-requires-in-Value-construct : goal.alternative-keep-held-requires-in-Value-construct
-alternative-keep-held-requires-in-Value-construct t c =
-    let g = c.loop-i.invariant.0 in
-    let w = alternative_built c in
-    let spare = c.requires.lent.room in
-    let more : c.loop-i.i < c.args.n + 1 = omega arith in
-    let still = c.construct.ensures.marks_unchanged in
-    let long = c.construct.ensures.marks_len_unchanged in
-    (branch_room g _ w spare more still long, valued_small w, branch_mark g _ w spare more still long)
-
-pub alternative-overflow_add-sum-in-Value-construct : goal.alternative-overflow_add-sum-in-Value-construct
-alternative-overflow_add-sum-in-Value-construct t c =
-    let w = alternative_built (goal.at.alternative-overflow_add-sum-in-Value-construct t c).After-keep-arg-in-Value-construct-1 in
-    let e = c.choose-sum-in-Value-construct.ensures in
-    omega (arith, branching_fits c.loop-i.invariant.0 e (valued_small w) (omega arith) c.requires.le_n.1)
-
 pub alternative-loop-i-preserved : goal.alternative-loop-i-preserved
 alternative-loop-i-preserved t c =
-    let w = alternative_built (goal.at.alternative-loop-i-preserved t c).After-keep-arg-in-Value-construct-1 in
+    let w = alternative_built (goal.at.alternative-loop-i-preserved t c).In-Value-construct in
     let k = c.keep-held-in-Value-construct.ensures in (
       branching_next c.loop-i.invariant.0 c.construct.new.marks w c.requires.lent.room (omega arith)
           c.construct.ensures.marks_unchanged c.construct.ensures.marks_len_unchanged
@@ -336,42 +267,12 @@ alternative-loop-i-preserved t c =
       c.construct.ensures.aside_len,
     )
 
-pub alternative-slice_bounds-charges-count : goal.alternative-slice_bounds-charges-count
-alternative-slice_bounds-charges-count t c = c.loop-i.invariant.0.going.above
-
-pub alternative-slice_bounds-charges-start : goal.alternative-slice_bounds-charges-start
-alternative-slice_bounds-charges-start t c = c.loop-i.invariant.0.going.above
-
-pub alternative-slice_bounds-charges-end : goal.alternative-slice_bounds-charges-end
-alternative-slice_bounds-charges-end t c = held_room c.loop-i.invariant.0.going c.requires.lent.room
-
-pub alternative-overflow_add-aside : goal.alternative-overflow_add-aside
-alternative-overflow_add-aside t c =
-    let l = c.loop-i in
-    omega (arith, mark_added l.aside l.mark l.invariant.1, (going_fits l.invariant.0.going).added, c.charges-more.ensures.1)
-
-pub alternative-overflow_add-sum-2 : goal.alternative-overflow_add-sum-2
-alternative-overflow_add-sum-2 t c =
-    let g = c.loop-i.invariant.0 in
-    omega (arith, branching_small g, g.going.count, c.requires.le_n.1)
-
-pub alternative-ended-requires : goal.alternative-ended-requires
-alternative-ended-requires t c =
-    let l = c.loop-i in
-    let four = set_four l.aside l.mark l.invariant.1 2 in (
-      set_four (set l.aside 2 l.mark) _ four 1,
-      omega (arith, end_constructs l.aside l.mark c.at_most.result l.invariant.1, few_valued l.invariant.0.going c.requires.lent.short),
-    )
-
 pub alternative-returns-clause-tells : goal.alternative-returns-clause-tells
 alternative-returns-clause-tells t c =
     let l = c.loop-i in
     let same = end_told l.aside l.mark c.at_most.result c.charges-more.result l.invariant.1 c.at_most.ensures in
     told_ended c.ended.ensures.value c.ended.ensures.aside_after
     (branching_ends l.invariant.0 (omega arith) c.requires.lent.fits.added c.charges-more.ensures.0 same refl)
-
-pub alternative-returns-clause-marks_unchanged : goal.alternative-returns-clause-marks_unchanged
-alternative-returns-clause-marks_unchanged t c = c.loop-i.invariant.0.going.below
 
 -- The children of `head_loop`, read at once or by `construct`, add up; a scope pays what its markers add.
 head_loop_child_is : {t : ℕ} (c : head_loop-After-choose-way t) →
@@ -395,23 +296,16 @@ head_loop_once : {t : ℕ} (c : head_loop-In-Value t) →
     (a.held - a.held) l.at)
     (parsed.Value c.in-Value.v c.in-Value.next) (aside_is c.at_once.new.aside)
 head_loop_once {t} c =
-    let is = head_loop_child_is (goal.at.head_loop-counted-sum-requires-clause-v_le_value_limit t c).After-choose-way in
-    told_as is (quickly_value c.in-Value.ensures.quickly refl c.inner_of-inner.result)
+    let is = head_loop_child_is (goal.at.head_loop-In-Value t c).After-choose-way in
+    read_once c.in-Value.ensures.quickly c.inner_of-inner.result is
 
 pub head_loop-loop-i-init : goal.head_loop-loop-i-init
 head_loop-loop-i-init t c =
     let p = c.requires.lent in
     (summing_from _ _ _ _ _ _ _ _ c.opened-before.ensures.aside_after p.kept c.requires.within p.fits, c.opened-before.ensures.aside_len)
 
-pub head_loop-at_once-requires : goal.head_loop-at_once-requires
-head_loop-at_once-requires t c = lent_once c.requires.lent c.loop-i.invariant.1 (going_fits c.loop-i.invariant.0.going)
-
 pub head_loop-counted-sum-requires-clause-v_le_value_limit : goal.head_loop-counted-sum-requires-clause-v_le_value_limit
 head_loop-counted-sum-requires-clause-v_le_value_limit t c = valued_small (head_loop_once c)
-
-pub head_loop-overflow_add-sum : goal.head_loop-overflow_add-sum
-head_loop-overflow_add-sum t c =
-    omega (arith, summing_fits c.loop-i.invariant.0 c.loop-i-test.true (omega arith), c.counted-sum.ensures.1)
 
 pub head_loop-loop-i-preserved-in-Value : goal.head_loop-loop-i-preserved-in-Value
 head_loop-loop-i-preserved-in-Value t c =
@@ -421,48 +315,26 @@ head_loop-loop-i-preserved-in-Value t c =
       c.in-Value.ensures.aside_len,
     )
 
-pub head_loop-construct-requires : goal.head_loop-construct-requires
-head_loop-construct-requires t c =
-    let g = c.loop-i.invariant.0.going in
-    let fits = fits_as (quickly_other c.in-Other.ensures.quickly refl) (going_fits g) in
-    (omega arith, lent_on c.requires.lent c.at_once.ensures.aside_len fits c.inner_of-inner.ensures.1 g.long g.room)
-
 pub head_loop-returns-in-Refused-clause-tells : goal.head_loop-returns-in-Refused-clause-tells
 head_loop-returns-in-Refused-clause-tells t c =
     let is = head_loop_child_is (goal.at.head_loop-returns-in-Refused-clause-tells t c).After-choose-way in
-    let refused = is ∙ tells_refusal c.in-Refused.ensures.tells refl in
-    a_refusal (child_refused c.loop-i.invariant.0.going c.requires.lent.room c.loop-i-test.true refused) refl
-
-pub head_loop-returns-in-Refused-clause-marks_unchanged : goal.head_loop-returns-in-Refused-clause-marks_unchanged
-head_loop-returns-in-Refused-clause-marks_unchanged t c = still_below _ c.loop-i.invariant.0.going c.construct.ensures.marks_unchanged
-
-pub head_loop-overflow_add-sum-in-Value-construct : goal.head_loop-overflow_add-sum-in-Value-construct
-head_loop-overflow_add-sum-in-Value-construct t c =
-    omega (arith, summing_fits c.loop-i.invariant.0 c.loop-i-test.true (omega arith), c.counted-sum-in-Value-construct.ensures.1)
+    list_tells c.loop-i.invariant.0.going c.requires.lent.room c.loop-i-test.true is c.in-Refused.ensures.tells
 
 pub head_loop-loop-i-preserved : goal.head_loop-loop-i-preserved
 head_loop-loop-i-preserved t c =
     let is = head_loop_child_is (goal.at.head_loop-loop-i-preserved t c).After-choose-way in
-    let w = told_from (quickly_other c.in-Other.ensures.quickly refl) (told_as is (tells_value c.in-Value-construct.ensures.tells refl)) in (
+    let w = read_next c.in-Other.ensures.quickly is c.in-Value-construct.ensures.tells in (
       summing_more c.loop-i.invariant.0 _ w c.counted-sum-in-Value-construct.ensures.0 c.requires.lent.room
           (record { loop = λ _. c.requires.count_bound.0 }) c.loop-i-test.true refl
           c.construct.ensures.marks_unchanged c.construct.ensures.marks_len_unchanged,
       c.construct.ensures.aside_len,
     )
 
-pub head_loop-paid-requires : goal.head_loop-paid-requires
-head_loop-paid-requires t c =
-    let (g, four) = c.loop-i.invariant in
-    (summing_small g (omega arith), (going_fits g.going).added, four, omega (arith, few_valued g.going c.requires.lent.short))
-
 pub head_loop-returns-clause-tells : goal.head_loop-returns-clause-tells
 head_loop-returns-clause-tells t c =
     let same = ap (aside_paid (aside_is c.loop-i.aside) c.args.scope) c.opened-before.ensures.value in
     told_ended c.paid.ensures.value c.paid.ensures.aside_after
     (summing_ends c.loop-i.invariant.0 c.loop-i-test.false c.requires.lent.fits.added same (paid_is c.loop-i.sum refl))
-
-pub head_loop-returns-clause-marks_unchanged : goal.head_loop-returns-clause-marks_unchanged
-head_loop-returns-clause-marks_unchanged t c = c.loop-i.invariant.0.going.below
 
 -- The children of `tail_loop`, read at once or by `construct`, add up and are paid for in the same way.
 tail_loop_child_is : {t : ℕ} (c : tail_loop-After-choose-way t) →
@@ -486,23 +358,16 @@ tail_loop_once : {t : ℕ} (c : tail_loop-In-Value t) →
     (a.held - a.held) l.at)
     (parsed.Value c.in-Value.v c.in-Value.next) (aside_is c.at_once.new.aside)
 tail_loop_once {t} c =
-    let is = tail_loop_child_is (goal.at.tail_loop-counted-sum-requires-clause-v_le_value_limit t c).After-choose-way in
-    told_as is (quickly_value c.in-Value.ensures.quickly refl c.inner_of-inner.result)
+    let is = tail_loop_child_is (goal.at.tail_loop-In-Value t c).After-choose-way in
+    read_once c.in-Value.ensures.quickly c.inner_of-inner.result is
 
 pub tail_loop-loop-i-init : goal.tail_loop-loop-i-init
 tail_loop-loop-i-init t c =
     let p = c.requires.lent in
     (summing_from _ _ _ _ _ _ _ _ c.opened-before.ensures.aside_after p.kept c.requires.within p.fits, c.opened-before.ensures.aside_len)
 
-pub tail_loop-at_once-requires : goal.tail_loop-at_once-requires
-tail_loop-at_once-requires t c = lent_once c.requires.lent c.loop-i.invariant.1 (going_fits c.loop-i.invariant.0.going)
-
 pub tail_loop-counted-sum-requires-clause-v_le_value_limit : goal.tail_loop-counted-sum-requires-clause-v_le_value_limit
 tail_loop-counted-sum-requires-clause-v_le_value_limit t c = valued_small (tail_loop_once c)
-
-pub tail_loop-overflow_add-sum : goal.tail_loop-overflow_add-sum
-tail_loop-overflow_add-sum t c =
-    omega (arith, summing_fits c.loop-i.invariant.0 c.loop-i-test.true (omega arith), c.counted-sum.ensures.1)
 
 pub tail_loop-loop-i-preserved-in-Value : goal.tail_loop-loop-i-preserved-in-Value
 tail_loop-loop-i-preserved-in-Value t c =
@@ -512,39 +377,20 @@ tail_loop-loop-i-preserved-in-Value t c =
       c.in-Value.ensures.aside_len,
     )
 
-pub tail_loop-construct-requires : goal.tail_loop-construct-requires
-tail_loop-construct-requires t c =
-    let g = c.loop-i.invariant.0.going in
-    let fits = fits_as (quickly_other c.in-Other.ensures.quickly refl) (going_fits g) in
-    (omega arith, lent_on c.requires.lent c.at_once.ensures.aside_len fits c.inner_of-inner.ensures.1 g.long g.room)
-
 pub tail_loop-returns-in-Refused-clause-tells : goal.tail_loop-returns-in-Refused-clause-tells
 tail_loop-returns-in-Refused-clause-tells t c =
     let is = tail_loop_child_is (goal.at.tail_loop-returns-in-Refused-clause-tells t c).After-choose-way in
-    let refused = is ∙ tells_refusal c.in-Refused.ensures.tells refl in
-    a_refusal (child_refused c.loop-i.invariant.0.going c.requires.lent.room c.loop-i-test.true refused) refl
-
-pub tail_loop-returns-in-Refused-clause-marks_unchanged : goal.tail_loop-returns-in-Refused-clause-marks_unchanged
-tail_loop-returns-in-Refused-clause-marks_unchanged t c = still_below _ c.loop-i.invariant.0.going c.construct.ensures.marks_unchanged
-
-pub tail_loop-overflow_add-sum-in-Value-construct : goal.tail_loop-overflow_add-sum-in-Value-construct
-tail_loop-overflow_add-sum-in-Value-construct t c =
-    omega (arith, summing_fits c.loop-i.invariant.0 c.loop-i-test.true (omega arith), c.counted-sum-in-Value-construct.ensures.1)
+    list_tells c.loop-i.invariant.0.going c.requires.lent.room c.loop-i-test.true is c.in-Refused.ensures.tells
 
 pub tail_loop-loop-i-preserved : goal.tail_loop-loop-i-preserved
 tail_loop-loop-i-preserved t c =
     let is = tail_loop_child_is (goal.at.tail_loop-loop-i-preserved t c).After-choose-way in
-    let w = told_from (quickly_other c.in-Other.ensures.quickly refl) (told_as is (tells_value c.in-Value-construct.ensures.tells refl)) in (
+    let w = read_next c.in-Other.ensures.quickly is c.in-Value-construct.ensures.tells in (
       summing_more c.loop-i.invariant.0 _ w c.counted-sum-in-Value-construct.ensures.0 c.requires.lent.room
           (record { loop = λ _. c.requires.count_bound.0 }) c.loop-i-test.true refl
           c.construct.ensures.marks_unchanged c.construct.ensures.marks_len_unchanged,
       c.construct.ensures.aside_len,
     )
-
-pub tail_loop-paid-requires : goal.tail_loop-paid-requires
-tail_loop-paid-requires t c =
-    let (g, four) = c.loop-i.invariant in
-    (summing_small g (omega arith), (going_fits g.going).added, four, omega (arith, few_valued g.going c.requires.lent.short))
 
 pub tail_loop-returns-clause-tells : goal.tail_loop-returns-clause-tells
 tail_loop-returns-clause-tells t c =
@@ -552,21 +398,18 @@ tail_loop-returns-clause-tells t c =
     told_ended c.paid.ensures.value c.paid.ensures.aside_after
     (summing_ends c.loop-i.invariant.0 c.loop-i-test.false c.requires.lent.fits.added same (paid_is c.loop-i.sum refl))
 
-pub tail_loop-returns-clause-marks_unchanged : goal.tail_loop-returns-clause-marks_unchanged
-tail_loop-returns-clause-marks_unchanged t c = c.loop-i.invariant.0.going.below
-
 -- The statement of `timed_loop`, read at once or by `construct`, adds to its time.
 timed_loop_once : {t : ℕ} (c : timed_loop-In-Value t) →
     let a = c.args in
     Valued (length a.s.now) a.c.at (aside_is a.aside.now) (construct_of a.left a.s.now a.bounds.now a.own 0 0 a.c)
     (parsed.Value c.in-Value.v c.in-Value.next) (aside_is c.at_once.new.aside)
-timed_loop_once c = quickly_value c.in-Value.ensures.quickly refl 0
+timed_loop_once c = read_once c.in-Value.ensures.quickly 0 refl
 
 timed_loop_built : {t : ℕ} (c : timed_loop-In-Value-construct t) →
     let a = c.args in
     Valued (length a.s.now) a.c.at (aside_is a.aside.now) (construct_of a.left a.s.now a.bounds.now a.own 0 0 a.c)
     (parsed.Value c.in-Value-construct.v c.in-Value-construct.next) (aside_is c.construct.new.aside)
-timed_loop_built c = told_from (quickly_other c.in-Other.ensures.quickly refl) (tells_value c.in-Value-construct.ensures.tells refl)
+timed_loop_built c = read_next c.in-Other.ensures.quickly refl c.in-Value-construct.ensures.tells
 
 pub timed_loop-overflow_add-v : goal.timed_loop-overflow_add-v
 timed_loop-overflow_add-v t c = omega (arith, valued_small (timed_loop_once c))
@@ -588,7 +431,7 @@ timed_loop-returns-in-Refused-clause-tells t c =
     let a = c.args in
     a_refusal
     (timed_refused (construct_of a.left a.s.now a.bounds.now a.own) a.time a.standing a.c c.requires.lent c.requires.within
-        (tells_refusal c.in-Refused.ensures.tells refl))
+    (tells_refusal c.in-Refused.ensures.tells refl))
     refl
 
 pub timed_loop-returns-in-Value-construct-clause-tells : goal.timed_loop-returns-in-Value-construct-clause-tells
@@ -596,4 +439,4 @@ timed_loop-returns-in-Value-construct-clause-tells t c =
     let w = timed_loop_built (goal.at.timed_loop-returns-in-Value-construct-clause-tells t c).In-Value-construct in
     told_ended c.ended-in-Value-construct.ensures.value c.ended-in-Value-construct.ensures.aside_after
     (timed_ends (construct_of c.args.left c.args.s.now c.args.bounds.now c.args.own) c.args.time c.args.standing c.args.c c.requires.lent c.requires.within _ w
-        c.construct.ensures.marks_unchanged c.construct.ensures.marks_len_unchanged)
+    c.construct.ensures.marks_unchanged c.construct.ensures.marks_len_unchanged)

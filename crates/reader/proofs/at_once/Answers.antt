@@ -1,5 +1,5 @@
 -- `at_once`: a primitive, a call and a marker are read as `construct` reads them (Constructs); any other is left as it is.
-use Rattle.std.proofs.Common.{ℕ, List, ◌≡◌, ◌≤◌, ◌<◌, ◌≢◌, refl, sym, arith}
+use Rattle.std.proofs.Common.{refl, sym, arith}
 use Rattle.records.proofs.Founds.{leaf_primitive, leaf_call, leaf_marker}
 use Rattle.reader.specs.Tallies.{at_once}
 use Rattle.reader.proofs.Constructs.{primitive_alone, call_alone, marker_alone, set_mark, call_range, marker_range}
