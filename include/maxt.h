@@ -1,4 +1,4 @@
-/* The proved timing calculator for C: the entries of target/staticlib/libboundary.a (`rt staticlib boundary`), x86-64.
+/* The proved timing calculator for C: the entries of target/staticlib/libboundary.a (`tools/archive`), x86-64.
  *
  * Each entry does what its contract in crates/boundary/src/lib.rt says, for every content of its arguments. What no proof can ask of a
  * program in C, and what that program owes therefore:

@@ -10,7 +10,7 @@ fn main() {
     println!("cargo:rustc-link-lib=static=boundary");
 }
 
-/// `MAXT_ARCHIVE_DIR`, or where `rt staticlib boundary` leaves the archive.
+/// `MAXT_ARCHIVE_DIR`, or where `tools/archive` leaves the archive.
 fn archive_directory() -> PathBuf {
     match std::env::var_os("MAXT_ARCHIVE_DIR") {
         Some(directory) => PathBuf::from(directory),

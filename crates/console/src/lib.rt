@@ -1,16 +1,17 @@
-// A sheet from a descriptor, and what `maxt` prints for it on standard output.
+// A sheet from a reader, and what `maxt` prints for it on standard output.
 #![tactic(auto)]
 
 ghost use Rattle.std.specs.Prelude.{◌≡◌, ◌≤◌, length};
 ghost use Rattle.console.specs.Reading.{told_of, Within};
 
-use libc::STDOUT_FILENO;
+use std::io;
+use std::io::{Cursor, Read};
 
-// How much was read before the end of the input or of the room for it, or that a read failed.
+// How much was read before the end of the input or of the room for it, or why a read failed.
 #[derive(Drop)]
 enum Got {
     Bytes(usize),
-    Failed,
+    Failed(io::Error),
 }
 
 // One byte more than a sheet may have: what comes after it changes no answer (lines, Enough.enough).
@@ -21,35 +22,36 @@ fn no_input() -> [u8; 60001]
 }
 
 // What a read into the rest of the room came to, by what it answered.
-fn told(answer: isize, rest: &[u8]) -> Got
+fn told(answer: io::Result<usize>, rest: &[u8]) -> Got
     ensures value { result ≡ told_of answer (length rest.now) }
     ensures within { Within (length rest.now) 0 result }
 {
-    if answer < 0 {
-        return Got::Failed;
+    match answer {
+        Ok(n) => Got::Bytes(n.min(rest.len())),
+        Err(error) => Got::Failed(error),
     }
-    Got::Bytes(io::count(answer, rest))
 }
 
 // One read into the room from a place on; no bytes at the end of the input.
-fn read_some(from: i32, input: &mut [u8], at: usize) -> Got
+fn read_some(from: &mut impl Read, input: &mut [u8], at: usize) -> Got
     requires { at ≤ length input.old }
     ensures { Within (length input.old) at result }
 {
     let rest = &mut input[at..];
-    let answer = libc::read(from, rest);
+    let answer = from.read(rest);
     told(answer, rest)
 }
 
 // Reads until the input or the room for it ends; what was read stands at the start.
-fn read_input(from: i32, input: &mut [u8]) -> Got
+fn read_input(from: &mut impl Read, input: &mut [u8]) -> Got
     ensures { Within (length input.old) 0 result }
 {
     let room = input.len();
     let mut at: usize = 0;
     while at < room {
-        let Got::Bytes(n) = read_some(from, input, at) else {
-            return Got::Failed;
+        let n = match read_some(from, input, at) {
+            Got::Bytes(n) => n,
+            Got::Failed(error) => return Got::Failed(error),
         };
         if n == 0 {
             return Got::Bytes(at);
@@ -59,21 +61,65 @@ fn read_input(from: i32, input: &mut [u8]) -> Got
     Got::Bytes(at)
 }
 
+// Reads until the room is full, the input ends or a read fails, and returns how many bytes stand at the start of the room.
+pub fn read_full(from: &mut impl Read, input: &mut [u8]) -> usize
+    ensures { result ≤ length input.new }
+{
+    let room = input.len();
+    let mut at: usize = 0;
+    while at < room {
+        match read_some(from, input, at) {
+            Got::Bytes(0) => return at,
+            Got::Bytes(n) => at += n,
+            Got::Failed(_) => return at,
+        }
+    }
+    at
+}
+
+// How many bytes of an error's text say what failed: behind them std puts the system's number for it, as in " (os error 21)".
+fn words_of(text: &[u8]) -> usize
+    ensures { result ≤ length text.now }
+{
+    for (i, byte) in text.iter().enumerate() {
+        if *byte == b'(' {
+            return i.saturating_sub(1);
+        }
+        if *byte == 0 {
+            return i;
+        }
+    }
+    text.len()
+}
+
+// Says on standard error what failed, as the caller names it, and why.
+pub fn fail(rt: &HostRuntime, what: &[u8], error: io::Error) {
+    let mut text = Cursor::new([0u8; 256]);
+    let _ = io::Write::write_fmt(&mut text, format_args!("{error}"));
+    let why = text.into_inner();
+    let n = words_of(&why);
+    let said = rt.stderr();
+    let _ = said.write_all(what);
+    let _ = said.write_all(b": ");
+    let _ = said.write_all(&why[..n]);
+    let _ = said.write_all(b"\n");
+}
+
 // Prints what `maxt` prints for a sheet, and says on standard error where that cannot be written.
-fn print(sheet: &[u8]) {
-    let mut page = io::buffer();
+fn print(rt: &HostRuntime, sheet: &[u8]) {
+    let mut page = [0u8; 4096];
     let length = lines::print(sheet, &mut page);
-    if !io::write_all(STDOUT_FILENO, &page[..length]) {
-        os::fail(b"standard output");
+    if let Err(error) = rt.write_all(&page[..length]) {
+        fail(rt, b"standard output", error);
     }
 }
 
 // Reads a sheet and prints its answer. A read that fails is said on standard error, and there is no answer.
-pub fn answer(from: i32, name: &[u8]) {
+pub fn answer(rt: &HostRuntime, from: &mut impl Read, name: &[u8]) {
     let mut input = no_input();
     let got = read_input(from, &mut input);
     match got {
-        Got::Failed => os::fail(name),
-        Got::Bytes(n) => print(&input[..n]),
+        Got::Failed(error) => fail(rt, name, error),
+        Got::Bytes(n) => print(rt, &input[..n]),
     }
 }
