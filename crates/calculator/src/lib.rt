@@ -12,14 +12,14 @@ ghost use Rattle.calculator.specs.Steps.{is_accepted};
 use reader::{Answer, Bounds};
 
 // Where the records of a routine start and end.
-#[derive(Drop)]
+#[derive(Clone, Copy)]
 pub struct Places {
     pub start: usize,
     pub end: usize,
 }
 
 // What comes back: the answer, of how many routines the table holds the bounds, and how many constructs were valued for them.
-#[derive(Drop)]
+#[derive(Clone, Copy)]
 pub struct Filled {
     pub answer: Answer,
     pub routines: u64,

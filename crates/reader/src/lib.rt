@@ -40,7 +40,7 @@ pub enum Answer {
 }
 
 // The bounds of the routines read so far, in order, and how many constructs were valued for them.
-#[derive(Drop)]
+#[derive(Clone, Copy)]
 pub struct Bounds {
     pub values: [u64; 64],
     pub count: u64,
@@ -48,7 +48,7 @@ pub struct Bounds {
 }
 
 // The answer, and where the records of the routine that was asked for start and end, or the sheet's end for both.
-#[derive(Drop)]
+#[derive(Clone, Copy)]
 pub struct Reply {
     pub answer: Answer,
     pub start: usize,
@@ -56,28 +56,28 @@ pub struct Reply {
 }
 
 // What reading a sheet comes to. An enum holds no array, so the bounds stand beside the answer.
-#[derive(Drop)]
+#[derive(Clone, Copy)]
 pub struct Report {
     pub reply: Reply,
     pub bounds: Bounds,
 }
 
 // A construct that has ended: its value and the cursor past it; or a refusal's number and place.
-#[derive(Drop)]
+#[derive(Clone, Copy)]
 pub enum Parsed {
     Value(u64, Cursor),
     Refused(u64, usize),
 }
 
 // A construct that owns nothing, read at once; any other is not read.
-#[derive(Drop)]
+#[derive(Clone, Copy)]
 pub enum Quick {
     Value(u64, Cursor),
     Other,
 }
 
 // What the routines read so far come to, besides their bounds.
-#[derive(Drop)]
+#[derive(Clone, Copy)]
 pub struct Progress {
     pub last: u64,
     pub over: usize,

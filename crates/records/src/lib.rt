@@ -13,21 +13,21 @@ pub struct Cursor {
 }
 
 // A good record: its fields (0 for a second one that it does not have) and the cursor past it.
-#[derive(Drop)]
+#[derive(Clone, Copy)]
 pub struct Read {
     pub first: u64,
     pub second: u64,
     pub next: Cursor,
 }
 
-#[derive(Drop)]
+#[derive(Clone, Copy)]
 pub enum Head {
     Good(Read),
     Refused(u64, usize),
 }
 
 // A construct's record as it is found: its fields and the cursor past it, by kind; or a refusal's number and place.
-#[derive(Drop)]
+#[derive(Clone, Copy)]
 pub enum Found {
     Primitive(u64, Cursor),
     Sequence(u64, Cursor),
@@ -41,7 +41,7 @@ pub enum Found {
 }
 
 // A record that owns nothing, read at once; any other record, and any that is refused, is Other.
-#[derive(Drop)]
+#[derive(Clone, Copy)]
 pub enum Leaf {
     Primitive(u64, Cursor),
     Call(u64, Cursor),
