@@ -1,6 +1,6 @@
 /* The proved timing calculator for C: the entries of target/staticlib/libboundary.a (`tools/archive`), x86-64.
  *
- * Each entry does what its contract in crates/boundary/src/lib.rt says, for every content of its arguments. What no proof can ask of a
+ * Each entry does what its contract in crates/boundary_c/src/lib.rt says, for every content of its arguments. What no proof can ask of a
  * program in C, and what that program owes therefore:
  *   - each pointer leads to as many elements as the number after it says, or the brackets behind it, readable, and writable where it is not
  *     const; it is not null and is aligned for its type, even where the number is 0;

@@ -1,4 +1,4 @@
-// The calculator for programs in C and Rust: the entries of include/maxt.h, on numbers and slices.
+// The calculator for programs in C and Rust: what the entries of include/maxt.h do, on numbers and slices. The crate `boundary_c` exports them.
 #![tactic(auto)]
 
 ghost use Rattle.std.specs.Prelude.{◌≡◌, length};
@@ -25,8 +25,7 @@ fn put(answer: Answer, words: &mut [u64; 3])
 }
 
 // Answers a sheet: number, place and bound into answer and, on acceptance, the bounds of its routines into the table.
-#[unsafe(no_mangle)]
-pub extern "C" fn maxt_answer(sheet: &[u8], table: &mut [u64], answer: &mut [u64; 3])
+pub fn maxt_answer(sheet: &[u8], table: &mut [u64], answer: &mut [u64; 3])
     ensures answer_after { answer.new ≡ answer_words sheet.now (length table.old) }
     ensures table_after { table.new ≡ table_after sheet.now table.old }
 {
@@ -35,8 +34,7 @@ pub extern "C" fn maxt_answer(sheet: &[u8], table: &mut [u64], answer: &mut [u64
 }
 
 // Answers a sheet as maxt_answer does; returns how many constructs were valued, 0 for a refusal.
-#[unsafe(no_mangle)]
-pub extern "C" fn maxt_work(sheet: &[u8], table: &mut [u64], answer: &mut [u64; 3]) -> u64
+pub fn maxt_work(sheet: &[u8], table: &mut [u64], answer: &mut [u64; 3]) -> u64
     ensures value { result ≡ work sheet.now (length table.old) }
     ensures answer_after { answer.new ≡ answer_words sheet.now (length table.old) }
     ensures table_after { table.new ≡ table_after sheet.now table.old }
@@ -48,8 +46,7 @@ pub extern "C" fn maxt_work(sheet: &[u8], table: &mut [u64], answer: &mut [u64; 
 }
 
 // Where the records of a routine start and end; the sheet's end for both where there is no such routine.
-#[unsafe(no_mangle)]
-pub extern "C" fn maxt_routine(sheet: &[u8], number: u64, part: &mut [u64; 2])
+pub fn maxt_routine(sheet: &[u8], number: u64, part: &mut [u64; 2])
     ensures { part.new ≡ part_words sheet.now number }
 {
     let places = calculator::routine_places(sheet, number);
@@ -57,8 +54,7 @@ pub extern "C" fn maxt_routine(sheet: &[u8], number: u64, part: &mut [u64; 2])
 }
 
 // Answers a sheet as maxt_answer does, with two refusals more; on acceptance, by how many cycles each routine keeps its deadline into margins.
-#[unsafe(no_mangle)]
-pub extern "C" fn maxt_margins(
+pub fn maxt_margins(
     sheet: &[u8],
     table: &mut [u64],
     deadlines: &[u64],
