@@ -14,6 +14,13 @@ enum Got {
     Failed(io::Error),
 }
 
+// How many bytes stand at the start of a room, and why a read failed before the input or the room ended.
+#[derive(Drop)]
+struct Taken {
+    count: usize,
+    failed: Option<io::Error>,
+}
+
 // One byte more than a sheet may have: what comes after it changes no answer (lines, Enough.enough).
 fn no_input() -> [u8; 60001]
     ensures { 60001 ≡ length result }
@@ -42,39 +49,46 @@ fn read_some(from: &mut impl Read, input: &mut [u8], at: usize) -> Got
     told(answer, rest)
 }
 
+// Reads until the room is full, the input ends or a read fails.
+fn take(from: &mut impl Read, input: &mut [u8]) -> Taken
+    ensures { result.count ≤ length input.new }
+{
+    let room = input.len();
+    let mut count: usize = 0;
+    while count < room {
+        match read_some(from, input, count) {
+            Got::Bytes(0) => {
+                let failed = None;
+                return Taken { count, failed };
+            }
+            Got::Bytes(n) => count += n,
+            Got::Failed(error) => {
+                let failed = Some(error);
+                return Taken { count, failed };
+            }
+        }
+    }
+    let failed = None;
+    Taken { count, failed }
+}
+
 // Reads until the input or the room for it ends; what was read stands at the start.
 fn read_input(from: &mut impl Read, input: &mut [u8]) -> Got
     ensures { Within (length input.old) 0 result }
 {
-    let room = input.len();
-    let mut at: usize = 0;
-    while at < room {
-        let n = match read_some(from, input, at) {
-            Got::Bytes(n) => n,
-            Got::Failed(error) => return Got::Failed(error),
-        };
-        if n == 0 {
-            return Got::Bytes(at);
-        }
-        at += n;
+    let Taken { count, failed } = take(from, input);
+    match failed {
+        Some(error) => Got::Failed(error),
+        None => Got::Bytes(count),
     }
-    Got::Bytes(at)
 }
 
-// Reads until the room is full, the input ends or a read fails, and returns how many bytes stand at the start of the room.
+// The same, where what was read before a read failed is taken as it is: how many bytes stand at the start of the room.
 pub fn read_full(from: &mut impl Read, input: &mut [u8]) -> usize
     ensures { result ≤ length input.new }
 {
-    let room = input.len();
-    let mut at: usize = 0;
-    while at < room {
-        match read_some(from, input, at) {
-            Got::Bytes(0) => return at,
-            Got::Bytes(n) => at += n,
-            Got::Failed(_) => return at,
-        }
-    }
-    at
+    let taken = take(from, input);
+    taken.count
 }
 
 // How many bytes of an error's text say what failed: behind them std puts the system's number for it, as in " (os error 21)".

@@ -55,7 +55,7 @@ pub struct Reply {
     pub end: usize,
 }
 
-// What reading a sheet comes to. An enum holds no array, so the bounds stand beside the answer.
+// What reading a sheet comes to. The bounds stand beside the answer, whatever it is.
 #[derive(Clone, Copy)]
 pub struct Report {
     pub reply: Reply,

@@ -360,12 +360,12 @@ impl Cursor {
             return Leaf::Call(first, next);
         }
         if head == 589836 {
-            let strays = standing != 5;
-            if strays {
+            let is_stray = standing != 5;
+            if is_stray {
                 return Leaf::Other;
             }
-            let over = 1000000 < first;
-            if over {
+            let is_out_of_range = 1000000 < first;
+            if is_out_of_range {
                 return Leaf::Other;
             }
             let Field::Value(second, past) = next.word(s) else {

@@ -1,12 +1,10 @@
 -- `margins`: short lists are refused before anything is read; the bounds are filled in, the deadlines judged, and only then is anything written.
-use Rattle.std.proofs.Common.{ℕ, ℤ, List, ◌≡◌, ◌≤◌, length, take, ltb, arith, rules}
+use Rattle.std.proofs.Common.{arith, rules}
 use borrow.Author.Tests.{lt-ltb, le-ltb}
-use Rattle.meaning.specs.Format.{pick}
-use Rattle.meaning.specs.Answer.{Verdict, answer, table_after}
-use Rattle.calculator.specs.Promises.{filled}
-use Rattle.margins.specs.Steps.{in_range}
-use Rattle.margins.proofs.Plans.{Long, filled_so, no_room_lem, short_deadlines, short_margins, Judged, may_write, out_of_range, all_in_range}
+use Rattle.reader.specs.Said.{said_of}
+use Rattle.margins.proofs.Plans.{filled_so, no_room_lem, short_deadlines, short_margins, Judged, may_write, out_of_range, all_in_range}
 use Rattle.margins.proofs.margins.Goals as goal
+use Rattle.margins.proofs.margins.Goals.{After-all_or_none-written}
 
 pub returns-then-no_room : goal.returns-then-no_room
 returns-then-no_room c =
@@ -24,42 +22,34 @@ returns-then-few_margins c =
     record { result_value = plans.0; table_after = plans.1.0; margins_after = plans.1.1 }
 
 -- what is known once the routines to write are counted
-judged : (s table deadlines : List ℕ) (margins : List ℤ) → Long table deadlines margins → (before : List ℕ) → 64 ≤ length before →
-    {said : Verdict ℕ} {n : ℕ} {own : List ℕ} {good count : ℕ} → said ≡ answer s (length before) → n ≡ filled s (length before) →
-    own ≡ table_after s before → n ≤ 64 → length own ≡ 64 → good ≡ in_range (take n deadlines) → count ≡ pick (ltb good n) 0 n →
-    Judged s table deadlines margins said n own good count
-judged s table deadlines margins long before room said routines stored few own_long the_good the_count = record {
-  long = long;
-  before = before;
-  fills = filled_so s before room said routines stored;
-  few = few;
-  own_long = own_long;
-  the_good = the_good;
-  the_count = the_count;
-}
+known : (c : After-all_or_none-written) →
+    Judged c.args.sheet.now c.args.table.now c.args.deadlines.now c.args.margins.now (said_of c.fill-filled.result.answer) c.fill-filled.result.routines
+    c.fill-filled.new.table c.in_range-good.result c.all_or_none-written.result
+known c =
+    let filled = c.fill-filled.ensures in
+    record {
+      long = record { room = c.if-no_room.false; for_deadlines = c.if-few_deadlines.false; for_margins = c.if-few_margins.false };
+      before = _;
+      fills = filled_so _ _ (search rules) filled.answer_value filled.routines_value filled.table_after;
+      few = filled.routines_bound;
+      own_long = search rules;
+      the_good = c.in_range-good.ensures;
+      the_count = c.all_or_none-written.ensures;
+    }
 
 pub write_out-requires-clause-at_most : goal.write_out-requires-clause-at_most
-write_out-requires-clause-at_most c =
-    let known = judged c.args.sheet.now c.args.table.now c.args.deadlines.now c.args.margins.now
-    (record { room = c.if-no_room.false; for_deadlines = c.if-few_deadlines.false; for_margins = c.if-few_margins.false })
-    _ (search rules) c.fill-filled.ensures.answer_value c.fill-filled.ensures.routines_value c.fill-filled.ensures.table_after
-    c.fill-filled.ensures.routines_bound (search rules) c.in_range-good.ensures c.all_or_none-written.ensures in
-    (may_write _ _ _ _ known).1
+write_out-requires-clause-at_most c = (may_write _ _ _ _ (known (goal.at.write_out-requires-clause-at_most c).After-all_or_none-written)).1
 
 pub returns-then-bad : goal.returns-then-bad
 returns-then-bad c =
-    let known = judged c.args.sheet.now c.args.table.now c.args.deadlines.now c.args.margins.now
-    (record { room = c.if-no_room.false; for_deadlines = c.if-few_deadlines.false; for_margins = c.if-few_margins.false })
-    _ (search rules) c.fill-filled.ensures.answer_value c.fill-filled.ensures.routines_value c.fill-filled.ensures.table_after
-    c.fill-filled.ensures.routines_bound (search rules) c.in_range-good.ensures c.all_or_none-written.ensures in
-    let plans = out_of_range _ _ _ _ known c.write_out.ensures.table_after c.write_out.ensures.margins_after (lt-ltb _ _ c.if-bad.true) in
+    let plans =
+    out_of_range _ _ _ _ (known (goal.at.returns-then-bad c).After-all_or_none-written) c.write_out.ensures.table_after c.write_out.ensures.margins_after
+    (lt-ltb _ _ c.if-bad.true) in
     record { result_value = plans.0; table_after = plans.1.0; margins_after = plans.1.1 }
 
 pub returns : goal.returns
 returns c =
-    let known = judged c.args.sheet.now c.args.table.now c.args.deadlines.now c.args.margins.now
-    (record { room = c.if-no_room.false; for_deadlines = c.if-few_deadlines.false; for_margins = c.if-few_margins.false })
-    _ (search rules) c.fill-filled.ensures.answer_value c.fill-filled.ensures.routines_value c.fill-filled.ensures.table_after
-    c.fill-filled.ensures.routines_bound (search rules) c.in_range-good.ensures c.all_or_none-written.ensures in
-    let plans = all_in_range _ _ _ _ known c.write_out.ensures.table_after c.write_out.ensures.margins_after (le-ltb _ _ c.if-bad.false) in
+    let plans =
+    all_in_range _ _ _ _ (known (goal.at.returns c).After-all_or_none-written) c.write_out.ensures.table_after c.write_out.ensures.margins_after
+    (le-ltb _ _ c.if-bad.false) in
     record { result_value = plans.0; table_after = plans.1.0; margins_after = plans.1.1 }
