@@ -1,5 +1,6 @@
--- What the functions of this crate come to, as far as a contract can say: none says which bytes are read.
-use Rattle.std.specs.Prelude.{ℕ, ◌+◌, ◌≤◌, min, Result, Ok, Err}
+-- What the functions of this crate come to. Which bytes a reader has is known of some readers, a slice or a cursor, and not of a file or a terminal.
+use Rattle.std.specs.Prelude.{ℕ, ◌+◌, ◌≡◌, ◌<◌, ◌≤◌, min, Result, Ok, Err, Option, List, length, take}
+use Rattle.std.specs.Io.KnownBytes.{Consumes, IsAtEnd, Keeps}
 use Rattle.std.specs.declared.io.Error.{Error}
 use Rattle.console.specs.declared.Got.{Got}
 use Rattle.console.specs.declared.Got.TheVariants.{Bytes, Failed}
@@ -13,3 +14,13 @@ told_of (Err e) room = Failed e
 abbrev pub Within : ℕ → ℕ → Got → Type 0
 Within room at (Bytes n) = at + n ≤ room
 Within room at (Failed e) = Unit {0}
+
+-- where the bytes that a reader has are known: a read moved the first of them to the start of the rest of the room, none only at its end; none if it failed
+abbrev pub Gives : Option (List ℕ) → Option (List ℕ) → List ℕ → Got → Type 0
+Gives old new rest (Bytes n) = Consumes old new (take n rest) × (n ≡ 0 → 0 < length rest → IsAtEnd new)
+Gives old new rest (Failed e) = Keeps old new
+
+-- the same of reading until the reader or the room ends: less than the room only at the reader's end
+abbrev pub GivesAll : Option (List ℕ) → Option (List ℕ) → List ℕ → Got → Type 0
+GivesAll old new room (Bytes n) = Consumes old new (take n room) × (n < length room → IsAtEnd new)
+GivesAll old new room (Failed e) = Unit {0}

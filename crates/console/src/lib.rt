@@ -1,8 +1,9 @@
 // A sheet from a reader, and what `maxt` prints for it on standard output.
 #![tactic(auto)]
 
-ghost use Rattle.std.specs.Prelude.{◌≡◌, ◌≤◌, length};
-ghost use Rattle.console.specs.Reading.{told_of, Within};
+ghost use Rattle.std.specs.Prelude.{◌≡◌, ◌≤◌, ◌<◌, length, take, drop, MatchOption};
+ghost use Rattle.std.specs.Io.KnownBytes.{Consumes, IsAtEnd};
+ghost use Rattle.console.specs.Reading.{told_of, Within, Gives, GivesAll};
 
 use std::io;
 use std::io::{Cursor, Read};
@@ -40,9 +41,11 @@ fn told(answer: io::Result<usize>, rest: &[u8]) -> Got
 }
 
 // One read into the room from a place on; no bytes at the end of the input.
-fn read_some(from: &mut impl Read, input: &mut [u8], at: usize) -> Got
+fn read_some<R: Read>(from: &mut R, input: &mut [u8], at: usize) -> Got
     requires { at ≤ length input.old }
-    ensures { Within (length input.old) at result }
+    ensures within { Within (length input.old) at result }
+    ensures front { take at input.new ≡ take at input.old }
+    ensures gives { Gives (R.remaining from.old) (R.remaining from.new) (drop at input.new) result }
 {
     let rest = &mut input[at..];
     let answer = from.read(rest);
@@ -50,8 +53,10 @@ fn read_some(from: &mut impl Read, input: &mut [u8], at: usize) -> Got
 }
 
 // Reads until the room is full, the input ends or a read fails.
-fn take(from: &mut impl Read, input: &mut [u8]) -> Taken
-    ensures { result.count ≤ length input.new }
+fn take_in<R: Read>(from: &mut R, input: &mut [u8]) -> Taken
+    ensures within { result.count ≤ length input.new }
+    ensures bytes { Consumes (R.remaining from.old) (R.remaining from.new) (take result.count input.new) }
+    ensures end { MatchOption result.failed (result.count < length input.new → IsAtEnd (R.remaining from.new)) (λ _. Unit {0}) }
 {
     let room = input.len();
     let mut count: usize = 0;
@@ -73,10 +78,11 @@ fn take(from: &mut impl Read, input: &mut [u8]) -> Taken
 }
 
 // Reads until the input or the room for it ends; what was read stands at the start.
-fn read_input(from: &mut impl Read, input: &mut [u8]) -> Got
-    ensures { Within (length input.old) 0 result }
+fn read_input<R: Read>(from: &mut R, input: &mut [u8]) -> Got
+    ensures within { Within (length input.old) 0 result }
+    ensures gives { GivesAll (R.remaining from.old) (R.remaining from.new) input.new result }
 {
-    let Taken { count, failed } = take(from, input);
+    let Taken { count, failed } = take_in(from, input);
     match failed {
         Some(error) => Got::Failed(error),
         None => Got::Bytes(count),
@@ -84,10 +90,11 @@ fn read_input(from: &mut impl Read, input: &mut [u8]) -> Got
 }
 
 // The same, where what was read before a read failed is taken as it is: how many bytes stand at the start of the room.
-pub fn read_full(from: &mut impl Read, input: &mut [u8]) -> usize
-    ensures { result ≤ length input.new }
+pub fn read_full<R: Read>(from: &mut R, input: &mut [u8]) -> usize
+    ensures within { result ≤ length input.new }
+    ensures bytes { Consumes (R.remaining from.old) (R.remaining from.new) (take result input.new) }
 {
-    let taken = take(from, input);
+    let taken = take_in(from, input);
     taken.count
 }
 
