@@ -10,7 +10,7 @@ ghost use Rattle.boundary.specs.Words.{verdict_words, answer_words, part_words};
 
 use reader::Answer;
 
-// Number, place and bound of an answer into three words.
+// Number, place and bound of an answer into three words, as C reads them.
 fn put(answer: Answer, words: &mut [u64; 3])
     ensures { words.new ≡ verdict_words (said_of answer) }
 {
@@ -18,8 +18,8 @@ fn put(answer: Answer, words: &mut [u64; 3])
         Answer::Accepted(bound) => {
             *words = [0, 0, bound];
         }
-        Answer::Refused(number, place) => {
-            *words = [number, place as u64, 0];
+        Answer::Refused(fault, place) => {
+            *words = [u64::from(fault), place as u64, 0];
         }
     }
 }

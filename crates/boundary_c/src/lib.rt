@@ -1,4 +1,5 @@
-// The archive for programs in C and Rust: the entries of include/maxt.h. Each has the clauses of the function of `boundary` that it calls.
+// The archive for programs in C and Rust: the entries of include/maxt.h. Each has the clauses of the function of `boundary` that it calls: they stand
+// twice for the C interface.
 #![tactic(auto)]
 
 ghost use Rattle.std.specs.Prelude.{◌≡◌, length};

@@ -3,13 +3,14 @@ use Prim.Native.Nat.{ℕ, zero, suc, ◌+◌, ◌-◌, ◌<◌}
 use mathlib.Core.Path.{◌≡◌, refl, sym, ap, ap₂, ◌∙◌}
 use mathlib.Core.Bool.{Bool, true, false}
 use mathlib.Core.List.{List, [], ◌∷◌, ◌++◌}
-use mathlib.Core.Option.{Option, none}
 use lib.ListN.{length, take, set, length-set}
 use lib.Seq.{length-take-le, take-suc-set, get_or-take}
 use lib.Dec.{eqb}
 use borrow.Author.Tests.{le-ltb}
 use native.Mathlib.Omega.{arith}
 use native.Mathlib.Numerals.{add-one}
+use Rattle.std.specs.Prelude.{Option, None}
+use Rattle.std.specs.Option.{option_or}
 use Rattle.meaning.specs.Tree.{Routine}
 use Rattle.meaning.specs.Format.{pick, routines_bytes}
 use Rattle.meaning.specs.Value.{Known, value, bounds, nothing, bounds_of, task_bound}
@@ -20,10 +21,11 @@ use Rattle.demands.proofs.Limit.{NoneOverLimit}
 use Rattle.records.specs.declared.Cursor.{Cursor}
 use Rattle.reader.specs.declared.Bounds.{Bounds}
 use Rattle.reader.specs.declared.Progress.{Progress}
+use Rattle.reader.specs.Tallies.{Share}
 use Rattle.reader.specs.Reader.{no_bounds, bounds_with, progress_from, progress_with}
 use Rattle.reader.proofs.Under.{set_small, none_small}
-use Rattle.bridge.proofs.Agree.{Over, Agrees, Finds}
-use Rattle.bridge.proofs.Ends.{also, also_none, over_also}
+use Rattle.bridge.proofs.Agree.{over_in, Agrees, Finds}
+use Rattle.bridge.proofs.Ends.{neither, or_same}
 use Rattle.bridge.proofs.More.{as_loop, Long, place_after, sheet_with, more, length_more, place_more, bounds_more, too_big_more, task_more, part_more}
 
 -- the bounds read so far, as what calls know
@@ -37,7 +39,7 @@ finds b (suc i) low high = let e : suc i - 1 ≡ i = omega arith in rw e (sym (g
 module _ (s : List ℕ) (number edition : ℕ) where
   -- the first record of these routines to end with too large a value, if there is one
   abbrev big_in : List Routine → Option ℕ
-  big_in rs = too_big (ended_of (sheet_with edition rs))
+  big_in rs = over_in (ended_of (sheet_with edition rs))
 
   -- What the code holds after these routines. Values count only while no record was too big.
   pub record Holds (rs : List Routine) (b : Bounds) (progress : Progress) : Type 0 where
@@ -45,9 +47,9 @@ module _ (s : List ℕ) (number edition : ℕ) where
     pub many : b.count ≡ length rs
     pub room : length b.values ≡ 64
     pub small : NoneOverLimit b.values
-    pub over : Over (big_in rs) progress.over
-    pub values : big_in rs ≡ none → take b.count b.values ≡ bounds_of (sheet_with edition rs)
-    pub last : big_in rs ≡ none → progress.last ≡ task_bound (sheet_with edition rs)
+    pub over : progress.over ≡ big_in rs
+    pub values : big_in rs ≡ None → take b.count b.values ≡ bounds_of (sheet_with edition rs)
+    pub last : big_in rs ≡ None → progress.last ≡ task_bound (sheet_with edition rs)
     pub part : part_in s (accepted (sheet_with edition rs)) number ≡ record { start = progress.start; stop = progress.end }
     pub constructs : b.constructs ≡ (valuing_routines nothing rs).constructs
 
@@ -70,55 +72,54 @@ module _ (s : List ℕ) (number edition : ℕ) where
       none_asked (suc i) = rw (le-ltb i 0 (omega arith))
 
   module _ {rs : List Routine} {b : Bounds} {progress : Progress} (d : Holds rs b progress) (space : b.count < 64)
-      {r : Routine} {past v o e m w : ℕ} {next : Cursor} (f : Agrees (known_to b) 0 progress.at.at (as_loop r) past v o e m w next)
-      (long : Long progress.at.at r past) where
+      {r : Routine} {past : ℕ} {p : Share} (f : Agrees (known_to b) 0 progress.at.at (as_loop r) past p) (long : Long progress.at.at r past) where
     abbrev known : Known
     known = bounds nothing rs
 
     -- while no record was too big, the code's bounds are the sheet's
-    agrees : big_in rs ≡ none → Agrees known 0 (place_after rs) (as_loop r) past v o e m w next
+    agrees : big_in rs ≡ None → Agrees known 0 (place_after rs) (as_loop r) past p
     agrees h =
         let same : known_to b ≡ known = ap (λ z. record { bounds = z }) (d.values h) in
         rw (← same, ← d.place) f
 
-    pub holds_more : Holds (more r rs) (bounds_with b v w) (progress_with progress (b.count + 1) number v o next)
+    pub holds_more : Holds (more r rs) (bounds_with b p.value p.constructs) (progress_with progress (b.count + 1) number p.value p.over p.next)
     unfolding bounds_with progress_with records
     holds_more = record {
       place = place;
       many = (let n = length_more r rs in let k = d.many in omega arith);
-      room = length-set b.values b.count v ∙ d.room;
-      small = set_small b.values b.count v d.small f.small;
-      over = rw big (over_also (big_in rs) _ progress.over o d.over (λ h. (agrees h).over));
+      room = length-set b.values b.count p.value ∙ d.room;
+      small = set_small b.values b.count p.value d.small f.small;
+      over = rw (d.over, big) (or_same (big_in rs) (λ h. (agrees h).over));
       values = values;
       last = last;
       part = rw (ap (λ n. eqb (n + 1) number) d.many) (part_more r s edition rs number ∙ part (eqb (length rs + 1) number));
       constructs = omega (arith, d.constructs, one_more nothing rs r, f.inside);
     }
       where
-        place : next.at ≡ place_after (more r rs)
+        place : p.next.at ≡ place_after (more r rs)
         place = let n = place_more r rs in let a = f.reached in let c = d.place in omega arith
 
-        big : big_in (more r rs) ≡ also (big_in rs) (too_big (ended known (place_after rs) (as_loop r)))
+        big : big_in (more r rs) ≡ option_or (big_in rs) (over_in (ended known (place_after rs) (as_loop r)))
         big = too_big_more r rs nothing 12
 
         -- no record is too big, so none was before
-        before : big_in (more r rs) ≡ none → (big_in rs ≡ none) × (v ≡ value known (as_loop r))
-        before h = let (a, b) = also_none _ _ (sym big ∙ h) in (a, (agrees a).amount b)
+        before : big_in (more r rs) ≡ None → (big_in rs ≡ None) × (p.value ≡ value known (as_loop r))
+        before h = let (a, b) = neither _ _ (sym big ∙ h) in (a, (agrees a).amount b)
 
-        values : big_in (more r rs) ≡ none → take (b.count + 1) (set b.values b.count v) ≡ bounds_of (sheet_with edition (more r rs))
+        values : big_in (more r rs) ≡ None → take (b.count + 1) (set b.values b.count p.value) ≡ bounds_of (sheet_with edition (more r rs))
         values h =
             let (a, e) = before h in
             let room = d.room in
-            rw add-one (take-suc-set b.values b.count v (omega arith) ∙ ap₂ (λ xs w. xs ++ (w ∷ [])) (d.values a) e
+            rw add-one (take-suc-set b.values b.count p.value (omega arith) ∙ ap₂ (λ xs w. xs ++ (w ∷ [])) (d.values a) e
             ∙ sym (ap (λ z. z.bounds) (bounds_more r rs nothing)))
 
-        last : big_in (more r rs) ≡ none → v ≡ task_bound (sheet_with edition (more r rs))
+        last : big_in (more r rs) ≡ None → p.value ≡ task_bound (sheet_with edition (more r rs))
         last h =
             let (a, e) = before h in
             let room = d.room in
             e ∙ sym (task_more r edition rs (ap length (sym (d.values a)) ∙ length-take-le b.count b.values (omega arith) ∙ d.many))
 
         part : (t : Bool) → pick t (record { start = place_after rs; stop = place_after (more r rs) }) (part_in s (accepted (sheet_with edition rs)) number) ≡
-            record { start = pick t progress.at.at progress.start; stop = pick t next.at progress.end }
+            record { start = pick t progress.at.at progress.start; stop = pick t p.next.at progress.end }
         part true = ap₂ (λ a b. record { start = a; stop = b }) (sym d.place) (sym place)
         part false = d.part

@@ -7,22 +7,19 @@ use lib.ListN.{length}
 use lib.Dec.{ltb}
 use Rattle.meaning.specs.Format.{pick}
 use Rattle.meaning.specs.Judgement.{sheet_at}
-use Rattle.meaning.specs.Answer.{refused, judgement, outcome, told, stored, part_of}
+use Rattle.meaning.specs.Answer.{accepted, refused, judgement, outcome, told, stored, part_of}
 use Rattle.meaning.specs.Work.{constructs_valued}
-use Rattle.reader.specs.declared.Answer.TheVariants.{Accepted}
-use Rattle.reader.specs.declared.Report.{Report}
-use Rattle.reader.specs.Reader.{no_bounds, refusal, report_of, sheet_of, read_of}
-use Rattle.reader.specs.Said.{said_of}
+use Rattle.reader.specs.Reader.{no_bounds, Report, refusal, report_of, sheet_of, read_of}
 use Rattle.reader.specs.Reports.{stored_of, part_said}
 use Rattle.bridge.proofs.Sheets.{Reports, refusal_law, sheet_law}
 
 -- the answer; on acceptance the bounds, as a table is to hold them; the part of the routine that was asked for; on acceptance the constructs
 -- valued
 pub record Reported (s : List ℕ) (number : ℕ) (r : Report) : Type 0 where
-  pub said : said_of r.reply.answer ≡ told (outcome s)
-  pub kept : (b : ℕ) → r.reply.answer ≡ Accepted b → (table : List ℕ) → stored_of r.bounds table ≡ stored (outcome s) table
+  pub said : r.reply.said ≡ told (outcome s)
+  pub kept : (b : ℕ) → r.reply.said ≡ accepted b → (table : List ℕ) → stored_of r.bounds table ≡ stored (outcome s) table
   pub part : part_said r ≡ part_of s number
-  pub valued : (b : ℕ) → r.reply.answer ≡ Accepted b → r.bounds.constructs ≡ constructs_valued (outcome s)
+  pub valued : (b : ℕ) → r.reply.said ≡ accepted b → r.bounds.constructs ≡ constructs_valued (outcome s)
 
 abbrev pub ReadLaw : Type 0
 ReadLaw = (s : List ℕ) (number : ℕ) → Reported s number (read_of s number)

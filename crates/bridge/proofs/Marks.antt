@@ -10,7 +10,8 @@ use Rattle.meaning.specs.Format.{Range, ranges_of, within, in_ranges}
 use Rattle.meaning.specs.Legal.{Reach, first_child, later_child, Legal, Legals}
 use Rattle.meaning.proofs.Laws.{pick_true, within_is}
 use Rattle.demands.proofs.Good.{Unmarked}
-use Rattle.bridge.proofs.Charges.{Limited}
+use Rattle.reader.specs.Tallies.{Limited}
+use Rattle.bridge.proofs.Agree.{limit_of}
 
 -- the first of some fields in their ranges, and the rest
 pub first_most : (p : Range) (ps : List Range) (a : ℕ) (xs : List ℕ) → in_ranges (p ∷ ps) (a ∷ xs) ≡ true → (a ≤ p.most) × (in_ranges ps xs ≡ true)
@@ -46,7 +47,7 @@ pub unmarked : (before depth : ℕ) (r : Reach) (c : Construct) → r.lead ≡ f
 unmarked before depth r c e e' h = (no_marker before depth r c e h, no_mark before depth r c e' h)
 
 -- the limit of a mark is in its range
-limited : (before depth : ℕ) (r : Reach) (c : Construct) → Legal before depth r c → Limited (itself c)
+limited : (before depth : ℕ) (r : Reach) (c : Construct) → Legal before depth r c → Limited (limit_of (itself c))
 unfolding ranges_of
 limited before depth r (primitive p) h = tt
 limited before depth r (sequence cs) h = tt
@@ -57,11 +58,11 @@ limited before depth r (timed_loop w o) h = tt
 limited before depth r (call k) h = tt
 limited before depth r (marker m) h = (first_most _ _ m.limit _ h.0.0).0
 
-leading_limited : (before depth : ℕ) (f l : Reach) (cs : Constructs) → Legals before depth f l cs → Limited (leading cs)
+leading_limited : (before depth : ℕ) (f l : Reach) (cs : Constructs) → Legals before depth f l cs → Limited (limit_of (leading cs))
 leading_limited before depth f l end h = tt
 leading_limited before depth f l (c then cs) h = limited before depth f c h.0
 
-pub mark_limited : (before depth : ℕ) (r : Reach) (c : Construct) → Legal before depth r c → Limited (mark c)
+pub mark_limited : (before depth : ℕ) (r : Reach) (c : Construct) → Legal before depth r c → Limited (limit_of (mark c))
 mark_limited before depth r (primitive p) h = tt
 mark_limited before depth r (sequence cs) h = leading_limited before _ _ _ cs h.1
 mark_limited before depth r (alternative c bs) h = tt

@@ -9,11 +9,13 @@ use lib.Dec.{ltb, eqb}
 use borrow.Author.Tests.{ltb-true, ltb-false, lt-ltb, le-ltb, eqb-true, eqb-false, ne_eqb}
 use native.Mathlib.Omega.{arith}
 use native.Mathlib.Nat.{lt_of_not-le}
+use Rattle.std.specs.Option.{option_or}
 use Rattle.meaning.specs.Tree.{Construct, timed_loop, Routine, Sheet, numbered}
 use Rattle.meaning.specs.Format.{pick, routine_bytes, routines_bytes}
 use Rattle.meaning.specs.Value.{Known, value, bound, knowing, bounds, nothing, bounds_of, task_bound}
-use Rattle.meaning.specs.Answer.{ended, ended_routines, too_big, accepted, routine_place, empty_part, part_in}
-use Rattle.bridge.proofs.Ends.{also, big_append}
+use Rattle.meaning.specs.Answer.{ended, ended_routines, accepted, routine_place, empty_part, part_in}
+use Rattle.bridge.proofs.Agree.{over_in}
+use Rattle.bridge.proofs.Ends.{big_append}
 
 -- a routine adds up, and its records end, as a timed loop of its organisation and its body
 abbrev pub as_loop : Routine → Construct
@@ -68,8 +70,8 @@ module _ (r : Routine) where
       rw (ended_more rs (knowing known (bound known x)) (at + length (routine_bytes x)), e) (sym (append_assoc (ended known at (as_loop x)) _ _))
 
   pub too_big_more : (rs : List Routine) (known : Known) (at : ℕ) →
-      too_big (ended_routines known at (more rs)) ≡ also (too_big (ended_routines known at rs)) (too_big (ended (bounds known rs) (at + size_of rs) (as_loop r)))
-  too_big_more rs known at = ap too_big (ended_more rs known at) ∙ big_append (ended_routines known at rs) _
+      over_in (ended_routines known at (more rs)) ≡ option_or (over_in (ended_routines known at rs)) (over_in (ended (bounds known rs) (at + size_of rs) (as_loop r)))
+  too_big_more rs known at = ap over_in (ended_more rs known at) ∙ big_append (ended_routines known at rs) _
 
   -- the task is the last routine
   pub task_more : (edition : ℕ) (rs : List Routine) → length (bounds_of (sheet_with edition rs)) ≡ length rs →

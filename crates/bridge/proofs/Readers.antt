@@ -1,8 +1,9 @@
 -- How a record and a child are read, by the code and by the judgement, and the rest after it.
-use Prim.Native.Nat.{ℕ, ◌+◌, ◌≤◌, min}
+use Prim.Native.Nat.{ℕ, ◌+◌, min}
 use mathlib.Core.Path.{◌≡◌, refl, ap, ◌∙◌}
 use mathlib.Core.Bool.{Bool, true}
 use mathlib.Core.List.{List}
+use Rattle.std.specs.Prelude.{Option}
 use Rattle.meaning.specs.Tree.{Construct}
 use Rattle.meaning.specs.Format.{Record}
 use Rattle.meaning.specs.Legal.{Reach}
@@ -14,15 +15,16 @@ use Rattle.demands.proofs.Found.{Found, not_read, was_read}
 use Rattle.demands.proofs.Records.{Judged}
 use Rattle.demands.proofs.Good.{Good}
 use Rattle.records.specs.declared.Cursor.{Cursor}
-use Rattle.reader.specs.Tallies.{Refused, Parsed}
+use Rattle.records.specs.declared.standings.Standing.{Standing}
+use Rattle.reader.specs.Tallies.{Refused, Parsed, Share}
 use Rattle.reader.specs.Reader.{on_parsed, ChildReader}
 use Rattle.bridge.proofs.Agree.{standing_of, occurs, Agrees, Same, both_refused, read_done}
 
 -- how children are read by the code and by the judgement, and what the judgement finds
 abbrev pub Alike : Known → ChildReader → ConstructReader → Type 0
 Alike known read g =
-    (r : Reach) (last : Bool) (product standing held at : ℕ) (c : Cursor) → occurs r ≡ true → standing ≡ standing_of r last → held ≡ min 1000000 product →
-    c.at ≡ at → 1 ≤ at → Same known product at (read standing held c) (g r last at)
+    (r : Reach) (last : Bool) (product : ℕ) (standing : Standing) (held at : ℕ) (c : Cursor) → occurs r ≡ true → standing ≡ standing_of r last →
+    held ≡ min 1000000 product → c.at ≡ at → Same known product at (read standing held c) (g r last at)
 
 abbrev pub Sure : (s : List ℕ) (before own : ℕ) → own ≡ before + 1 → ℕ → ConstructReader → Type 0
 Sure s before own number depth g = (r : Reach) (last : Bool) (at : ℕ) → Found (Good s before own number depth r last at) (g r last at)
@@ -37,9 +39,9 @@ past_record_lem {at = at} {x = x} j = j.span.long ∙ ap (λ z. at + z) (length_
 
 -- one child, then the rest
 pub next_child : {known : Known} {product at inner at' : ℕ} {P : Construct → ℕ → Type 0} {q : Parsed} {x : Reading Construct}
-    (f : ℕ → ℕ → ℕ → ℕ → ℕ → Cursor → Parsed) (k : Construct → Reader Construct) → Same known inner at' q x → Found P x →
-    ((v o e m w : ℕ) (next : Cursor) (c : Construct) (past : ℕ) → Agrees known inner at' c past v o e m w next → P c past →
-    Same known product at (f v o e m w next) (k c past)) →
+    (f : ℕ → Option ℕ → ℕ → Option ℕ → ℕ → Cursor → Parsed) (k : Construct → Reader Construct) → Same known inner at' q x → Found P x →
+    ((p : Share) (c : Construct) (past : ℕ) → Agrees known inner at' c past p → P c past →
+    Same known product at (f p.value p.over p.added p.mark p.constructs p.next) (k c past)) →
     Same known product at (on_parsed q Refused f) (and_then x k)
 next_child f k both_refused (not_read n) h = both_refused
-next_child f k (read_done a) (was_read g) h = h _ _ _ _ _ _ _ _ a g
+next_child f k (read_done a) (was_read g) h = h _ _ _ a g

@@ -1,5 +1,5 @@
 -- A routine is read by the code as by the judgement: as the timed loop of its organisation and its body.
-use Prim.Native.Nat.{ℕ, ◌+◌, ◌≤◌}
+use Prim.Native.Nat.{ℕ, ◌+◌}
 use mathlib.Core.Path.{◌≡◌, refl, sym, ap, ◌∙◌}
 use mathlib.Core.Bool.{false}
 use mathlib.Core.List.{List, []}
@@ -15,9 +15,10 @@ use Rattle.demands.proofs.Records.{Judged, judged_good, routine_is}
 use Rattle.demands.proofs.Limit.{NoneOverLimit}
 use Rattle.demands.proofs.Good.{good}
 use Rattle.records.specs.declared.Cursor.{Cursor}
-use Rattle.records.specs.Records.{head_of}
+use Rattle.records.specs.declared.standings.Standing.TheVariants.{Outside}
+use Rattle.records.specs.Records.{read_as, as_routine}
 use Rattle.reader.specs.Tallies.{Refused, no_tally}
-use Rattle.reader.specs.Reader.{on_head, owner_of, list_of, construct_of, routine_of}
+use Rattle.reader.specs.Reader.{on_reading, owner_of, list_of, construct_of, routine_of}
 use Rattle.bridge.proofs.Agree.{Same, both_refused, Finds}
 use Rattle.bridge.proofs.Readers.{then_assoc, past_record_lem}
 use Rattle.bridge.proofs.Loops.{timed_loop_law}
@@ -44,15 +45,16 @@ module _ (s : List ℕ) (before own : ℕ) (number : own ≡ before + 1) where
     abbrev body : Record → Reader Routine
     body x next = and_then (construct_at 24 s own nowhere false next) (λ c past. found (record { organisation = field x 0; body = c }) past)
 
-    read_routine : (at : ℕ) → 1 ≤ at → {j : Reading Record} → Found (Judged s routine at) j →
-        Same known 0 at (on_head (head_of j) Refused (λ r. list_of (construct_of 24 s bounds own) (owner_of 7 r.first 0 at 0 0) 1 0 r.next no_tally []))
+    read_routine : (at : ℕ) {j : Reading Record} → Found (Judged s routine at) j →
+        Same known 0 at (on_reading (read_as as_routine j) Refused (λ r next.
+        list_of (construct_of 24 s bounds own) (owner_of 7 r.organisation false at Outside 0) 1 0 next no_tally []))
         (and_then (and_then j body) (λ r. found (as_loop r)))
     unfolding timed_loop_at
-    read_routine at place (not_read n) = both_refused
-    read_routine at place (was_read {a = x} j) =
+    read_routine at (not_read n) = both_refused
+    read_routine at (was_read {a = x} j) =
         rw (past_routine j, then_assoc) (timed_loop_law known s before own number 1 (construct_of 24 s bounds own) (construct_at 24 s own)
-        (construct_law known s bounds before own number finds small 1 24 refl) (good s before own number 1 24 refl) (field x 0) 0 0 at 0 place)
+        (construct_law known s bounds before own number finds small 1 24 refl) (good s before own number 1 24 refl) (field x 0) 0 0 at Outside)
 
-    pub routine_law : (c : Cursor) → 1 ≤ c.at → Same known 0 c.at (routine_of s bounds own c) (and_then (routine_at s own c.at) (λ r. found (as_loop r)))
+    pub routine_law : (c : Cursor) → Same known 0 c.at (routine_of s bounds own c) (and_then (routine_at s own c.at) (λ r. found (as_loop r)))
     unfolding routine_of routine_at
-    routine_law c place = read_routine c.at place (judged_good s routine c.at)
+    routine_law c = read_routine c.at (judged_good s routine c.at)

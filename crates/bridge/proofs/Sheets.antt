@@ -3,11 +3,10 @@ use Prim.Native.Nat.{ℕ, zero, suc, ◌+◌, ◌≤◌}
 use mathlib.Core.Path.{◌≡◌, refl, sym, ap, ap₂, subst, ◌∙◌}
 use mathlib.Core.Bool.{Bool, true, false}
 use mathlib.Core.List.{List, [], ◌∷◌, ◌++◌, append-nil}
-use mathlib.Core.Option.{Option, some, none}
+use mathlib.Core.Option.{Option as Maybe, some, none}
 use lib.ListN.{length, drop}
 use lib.Seq.{append_snoc}
-use lib.Dec.{ltb, eqb}
-use borrow.Author.Tests.{eq-eqb, ne_eqb}
+use lib.Dec.{ltb}
 use native.Mathlib.Omega.{arith}
 use Rattle.meaning.specs.Tree.{Routine, Sheet}
 use Rattle.meaning.specs.Format.{pick, Record, field, of, sheet_rows, InRange, ranges_of}
@@ -16,18 +15,14 @@ use Rattle.meaning.specs.Answer.{past_record, ended_of, too_big, Verdict, accept
 use Rattle.meaning.specs.Work.{constructs_valued}
 use Rattle.demands.proofs.Found.{Found, not_read, was_read}
 use Rattle.demands.proofs.Records.{Judged, judged_good, sheet_is}
-use Rattle.records.specs.declared.Cursor.{Cursor}
-use Rattle.records.specs.Records.{head_of}
+use Rattle.records.specs.Records.{read_as, as_sheet}
 use Rattle.reader.specs.declared.Bounds.{Bounds}
 use Rattle.reader.specs.declared.Progress.{Progress}
-use Rattle.reader.specs.declared.Reply.{Reply}
-use Rattle.reader.specs.declared.Report.{Report}
-use Rattle.reader.specs.declared.Answer.TheVariants.{Accepted}
-use Rattle.reader.specs.Tallies.{Parsed}
-use Rattle.reader.specs.Reader.{on_head, on_parsed, no_bounds, bounds_with, progress_from, progress_with, refusal, verdict_of, report_of, routines_of, sheet_of}
-use Rattle.reader.specs.Said.{said_of}
+use Rattle.reader.specs.Tallies.{Parsed, Share, share}
+use Rattle.reader.specs.Reader.{on_reading, on_parsed, no_bounds, bounds_with, progress_from, progress_with}
+use Rattle.reader.specs.Reader.{Report, refusal, sized_of, verdict_of, report_of, routines_of, sheet_of}
 use Rattle.reader.specs.Reports.{stored_of, part_said}
-use Rattle.bridge.proofs.Agree.{Over, Agrees, Same, both_refused, read_done}
+use Rattle.bridge.proofs.Agree.{place_of, Agrees, Same, both_refused, read_done}
 use Rattle.bridge.proofs.Marks.{first_most}
 use Rattle.bridge.proofs.Readers.{past_record_lem}
 use Rattle.bridge.proofs.More.{as_loop, Long, sheet_with, more}
@@ -37,19 +32,14 @@ use Rattle.bridge.proofs.Held.{known_to, finds, Holds, holds_none, holds_more}
 -- what a report says of a verdict: the answer; on acceptance the bounds; the part of the routine that was asked for; on acceptance the
 -- constructs valued
 pub record Reports (s : List ℕ) (number : ℕ) (r : Report) (v : Verdict Sheet) : Type 0 where
-  pub said : said_of r.reply.answer ≡ told v
-  pub kept : (b : ℕ) → r.reply.answer ≡ Accepted b → (table : List ℕ) → stored_of r.bounds table ≡ stored v table
+  pub said : r.reply.said ≡ told v
+  pub kept : (b : ℕ) → r.reply.said ≡ accepted b → (table : List ℕ) → stored_of r.bounds table ≡ stored v table
   pub part : part_said r ≡ part_in s v number
-  pub valued : (b : ℕ) → r.reply.answer ≡ Accepted b → r.bounds.constructs ≡ constructs_valued v
+  pub valued : (b : ℕ) → r.reply.said ≡ accepted b → r.bounds.constructs ≡ constructs_valued v
 
 pub refusal_law : (s : List ℕ) (number k place : ℕ) (b : Bounds) → Reports s number (report_of (refusal (length s) k place) b) (refused k place)
 unfolding refusal
 refusal_law s number k place b = record { said = refl; kept = λ _ e _. cc; part = refl; valued = λ _ e. cc }
-
--- TOO BIG, then acceptance
-abbrev sized_reply : ℕ → Progress → Reply
-sized_reply long progress =
-    pick (eqb progress.over 0) (record { answer = Accepted progress.last; start = progress.start; end = progress.end }) (refusal long 12 progress.over)
 
 -- the sheet of these routines, unless bytes are left after them
 abbrev whole : List ℕ → ℕ → List Routine → Reader Sheet
@@ -66,22 +56,21 @@ module _ (s : List ℕ) (number edition : ℕ) where
   unfolding verdict_of refuse
   verdict_law rs b progress d = by_place (ltb progress.at.at (length s))
     where
-      by_values : (i : Option ℕ) → too_big (ended_of (sheet_with edition rs)) ≡ i → Over i progress.over →
-          Reports s number (report_of (sized_reply (length s) progress) b) (sized (sheet_with edition rs) i)
-      by_values none p x =
-          rw (eq-eqb progress.over 0 x) (record {
-            said = ap (λ z. accepted z) (d.last p);
-            kept = λ _ _ table. ap₂ (λ xs n. xs ++ drop n table) (d.values p) d.many;
-            part = sym d.part;
-            valued = λ _ _. d.constructs;
-          })
-      by_values (some place) p x = rw (ne_eqb progress.over 0 (λ e. omega arith), x.0) (refusal_law s number 12 place b)
+      by_values : (i : Maybe ℕ) → too_big (ended_of (sheet_with edition rs)) ≡ i →
+          Reports s number (report_of (sized_of (length s) progress (place_of i)) b) (sized (sheet_with edition rs) i)
+      by_values none p = record {
+        said = ap (λ z. accepted z) (d.last (rw p));
+        kept = λ _ _ table. ap₂ (λ xs n. xs ++ drop n table) (d.values (rw p)) d.many;
+        part = sym d.part;
+        valued = λ _ _. d.constructs;
+      }
+      by_values (some place) p = refusal_law s number 12 place b
 
       by_place : (t : Bool) →
-          Reports s number (report_of (pick t (refusal (length s) 11 progress.at.at) (sized_reply (length s) progress)) b)
+          Reports s number (report_of (pick t (refusal (length s) 11 progress.at.at) (sized_of (length s) progress progress.over)) b)
           (judgement (refuse t 11 progress.at.at (found (sheet_with edition rs) progress.at.at)))
       by_place true = refusal_law s number 11 progress.at.at b
-      by_place false = by_values (too_big (ended_of (sheet_with edition rs))) refl d.over
+      by_place false = rw d.over (by_values (too_big (ended_of (sheet_with edition rs))) refl)
 
   -- the verdict on these routines and those that are read after them
   abbrev verdict_with : List Routine → Reading (List Routine) → Verdict Sheet
@@ -100,25 +89,24 @@ module _ (s : List ℕ) (number edition : ℕ) where
   routines_step : (n : ℕ) → RoutinesLaw n → RoutinesLaw (suc n)
   unfolding routines_of routines_at bounds_with progress_with
   routines_step n law rs b progress d few =
-      let p = d.place in
       by_routine (routine_long s b.count (b.count + 1) refl progress.at.at)
-      (routine_law s b.count (b.count + 1) refl (known_to b) b.values (finds b) d.small progress.at (omega arith))
+      (routine_law s b.count (b.count + 1) refl (known_to b) b.values (finds b) d.small progress.at)
     where
       later : Reader (List Routine)
       later = routines_at n s (b.count + 1 + 1)
 
-      onward : ℕ → ℕ → ℕ → Cursor → Report
-      onward v o w next = routines_of n s number (bounds_with b v w) (progress_with progress (b.count + 1) number v o next)
+      onward : Share → Report
+      onward p = routines_of n s number (bounds_with b p.value p.constructs) (progress_with progress (b.count + 1) number p.value p.over p.next)
 
-      one_more : {r : Routine} {past v o e m w : ℕ} {next : Cursor} → Long progress.at.at r past →
-          Agrees (known_to b) 0 progress.at.at (as_loop r) past v o e m w next → Reports s number (onward v o w next) (verdict_with rs (after r (later past)))
-      one_more {r} {v = v} {o = o} {w = w} {next = next} long a =
+      one_more : {r : Routine} {past : ℕ} {p : Share} → Long progress.at.at r past → Agrees (known_to b) 0 progress.at.at (as_loop r) past p →
+          Reports s number (onward p) (verdict_with rs (after r (later past)))
+      one_more {r} {p = p} long a =
           rw (← a.reached)
-          (subst (Reports s number (onward v o w next)) (regroup rs r (later next.at)) (law _ _ _ (holds_more s number edition d (omega arith) a long) (omega arith)))
+          (subst (Reports s number (onward p)) (regroup rs r (later p.next.at)) (law _ _ _ (holds_more s number edition d (omega arith) a long) (omega arith)))
 
       by_routine : {q : Parsed} {g : Reading Routine} → Found (Long progress.at.at) g →
           Same (known_to b) 0 progress.at.at q (and_then g (λ r. found (as_loop r))) →
-          Reports s number (on_parsed q (λ k p. report_of (refusal (length s) k p) b) (λ v o e m w next. onward v o w next))
+          Reports s number (on_parsed q (λ k p. report_of (refusal (length s) k p) b) (λ v o e m w next. onward (share v o e m w next)))
           (verdict_with rs (and_then g (λ r past. after r (later past))))
       by_routine (not_read {number = k} {place = p} n) both_refused = refusal_law s number k p b
       by_routine (was_read long) (read_done a) = one_more long a
@@ -135,7 +123,8 @@ few_routines edition many range = (first_most _ _ many _ (first_most _ _ edition
 
 module _ (s : List ℕ) (number : ℕ) where
   read_sheet : {j : Reading Record} → Found (Judged s sheet 0) j →
-      Reports s number (on_head (head_of j) (λ k p. report_of (refusal (length s) k p) no_bounds) (λ r. routines_of r.second s number no_bounds (progress_from (length s) r.next)))
+      Reports s number (on_reading (read_as as_sheet j) (λ k p. report_of (refusal (length s) k p) no_bounds) (λ r next.
+      routines_of r.routines s number no_bounds (progress_from (length s) next)))
       (judgement (and_then j (λ x next. and_then (routines_at (field x 1) s 1 next) (λ rs past. whole s (field x 0) rs past))))
   unfolding no_bounds progress_from
   read_sheet (not_read {number = k} {place = p} n) = refusal_law s number k p no_bounds

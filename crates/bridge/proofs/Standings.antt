@@ -1,4 +1,4 @@
--- How the code's numbers for standings follow document 01's reaches, from a record to what it owns; and that both judge a record alike.
+-- How the code's standings follow document 01's reaches, from a record to what it owns; and that both judge a record alike.
 use Prim.Native.Nat.{ℕ, zero, suc, ◌+◌, ◌*◌, ◌≤◌, min}
 use mathlib.Core.Path.{◌≡◌, refl, ◌∙◌}
 use mathlib.Core.Bool.{Bool, true, false, not, false≢true}
@@ -10,15 +10,17 @@ use native.Mathlib.Nat.{mul-le-mul_right}
 use Rattle.meaning.specs.Format.{pick, Record}
 use Rattle.meaning.specs.Legal.{Reach, may_mark, nowhere, first_child, later_child, as_branch, as_body}
 use Rattle.meaning.specs.Judgement.{Reading, construct, refuse, stray, no_plain, judged}
+use Rattle.records.specs.declared.standings.Standing.{Standing}
+use Rattle.records.specs.declared.standings.Standing.TheVariants.{Outside, Branch, LastBranch}
 use Rattle.records.specs.Records.{reach_of, last_of, construct_as}
-use Rattle.reader.specs.Ways.{lead_of, body_of, inner_of, ways, ways_of, way_of}
+use Rattle.reader.specs.Ways.{lead_of, later_of, kept_scope, body_of, inner_of, ways, ways_of, way_of}
 use Rattle.reader.proofs.Laws.{pick_same}
 use Rattle.bridge.proofs.Agree.{standing_of, occurs}
 
 abbrev reach : Bool → Bool → Bool → Bool → Reach
 reach scope alternative branch lead = record { scope = scope; alternative = alternative; branch = branch; lead = lead }
 
--- what holds of the seven standings, 0 to 6, holds of every reach that occurs
+-- what holds of the seven standings holds of every reach that occurs
 by_standing : (P : Reach → Bool → Type 0) → ((a b l last : Bool) → P (reach false a b l) last) →
     ((last : Bool) → P (reach true false false false) last) → ((last : Bool) → P (reach true true false false) last) →
     P (reach true true true false) false → P (reach true true true false) true → P (reach true true false true) false → P (reach true true false true) true →
@@ -55,67 +57,60 @@ lead_law : (r : Reach) → occurs r ≡ true → (last : Bool) → lead_of (stan
 unfolding lead_of
 lead_law = by_standing (λ r last. lead_of (standing_of r last) ≡ standing_of (first_child r) last) (λ _ _ _ _. refl) (λ _. refl) (λ _. refl) refl refl refl refl
 
-others_law : (r : Reach) → occurs r ≡ true → (last : Bool) → min 2 (standing_of r last) ≡ standing_of (later_child r) false
-others_law = by_standing (λ r last. min 2 (standing_of r last) ≡ standing_of (later_child r) false) (λ _ _ _ _. refl) (λ _. refl) (λ _. refl) refl refl refl refl
+others_law : (r : Reach) → occurs r ≡ true → (last : Bool) → later_of (standing_of r last) ≡ standing_of (later_child r) false
+unfolding later_of
+others_law = by_standing (λ r last. later_of (standing_of r last) ≡ standing_of (later_child r) false) (λ _ _ _ _. refl) (λ _. refl) (λ _. refl) refl refl refl refl
 
-pub body_law : (second : ℕ) (r : Reach) → occurs r ≡ true → (last : Bool) → body_of second (standing_of r last) ≡ standing_of (as_body (eqb second 1) r) false
+pub body_law : (scope : Bool) (r : Reach) → occurs r ≡ true → (last : Bool) → body_of scope (standing_of r last) ≡ standing_of (as_body scope r) false
 unfolding body_of
-body_law second r h last = go (eqb second 1)
-  where
-    go : (scope : Bool) → pick scope 1 (pick (eqb (standing_of r last) 1) 1 0) ≡ standing_of (as_body scope r) false
-    go true = refl
-    go false =
-        by_standing (λ r last. pick (eqb (standing_of r last) 1) 1 0 ≡ standing_of (as_body false r) false) (λ a _ _ _. rw (pick_same a false)) (λ _. refl) (λ _. refl)
-        refl refl refl refl r h last
+body_law true r h last = refl
+body_law false r h last =
+    by_standing (λ r last. kept_scope (standing_of r last) ≡ standing_of (as_body false r) false) (λ a _ _ _. rw (pick_same a false)) (λ _. refl) (λ _. refl)
+    refl refl refl refl r h last
 
 -- where no branch is the last with all others marked
-pub way_fixed : (lead third others inner i marked : ℕ) → way_of (ways lead third others 0 inner) i marked ≡ pick (eqb i 0) lead (pick (eqb i 2) third others)
+pub way_fixed : (lead third others : Standing) (inner i marked : ℕ) →
+    way_of (ways lead third others 0 inner) i marked ≡ pick (eqb i 0) lead (pick (eqb i 2) third others)
 unfolding way_of
 way_fixed lead third others inner i marked = rw (ne_eqb (marked + 1) 0 (λ e. omega arith))
 
-pub way_first : (n second held marked : ℕ) (r : Reach) → occurs r ≡ true → (last : Bool) →
-    way_of (ways_of 3 n second (standing_of r last) held) 0 marked ≡ standing_of (first_child r) last
+pub way_first : (n held marked : ℕ) (r : Reach) → occurs r ≡ true → (last : Bool) →
+    way_of (ways_of 3 n false (standing_of r last) held) 0 marked ≡ standing_of (first_child r) last
 unfolding ways_of
-way_first n second held marked r h last = way_fixed _ _ _ held 0 marked ∙ lead_law r h last
+way_first n held marked r h last = way_fixed _ _ _ held 0 marked ∙ lead_law r h last
 
-pub way_later : (n second held i marked : ℕ) (r : Reach) → occurs r ≡ true → (last : Bool) → 1 ≤ i →
-    way_of (ways_of 3 n second (standing_of r last) held) i marked ≡ standing_of (later_child r) false
+pub way_later : (n held i marked : ℕ) (r : Reach) → occurs r ≡ true → (last : Bool) → 1 ≤ i →
+    way_of (ways_of 3 n false (standing_of r last) held) i marked ≡ standing_of (later_child r) false
 unfolding ways_of
-way_later n second held i marked r h last k =
+way_later n held i marked r h last k =
     way_fixed _ _ _ held i marked ∙ rw (ne_eqb i 0 (λ e. omega arith)) (pick_same (eqb i 2) _ ∙ others_law r h last)
 
 -- an alternative: its condition, its branches, and the passes of all
-pub way_condition : (n second held standing marked : ℕ) → way_of (ways_of 4 n second standing held) 0 marked ≡ standing_of nowhere false
+pub way_condition : (n held marked : ℕ) (standing : Standing) → way_of (ways_of 4 n false standing held) 0 marked ≡ standing_of nowhere false
 unfolding ways_of way_of
-way_condition n second held standing marked = go (eqb standing 0)
-  where
-    go : (t : Bool) → way_of (pick t (ways 0 0 0 0 held) (ways 0 3 3 n held)) 0 marked ≡ 0
-    go true = refl
-    go false = refl
+way_condition n held marked Outside = refl
+way_condition n held marked _ = refl
 
-pub way_branch : (n second held i marked : ℕ) (r : Reach) → occurs r ≡ true → (last : Bool) → 1 ≤ i →
-    way_of (ways_of 4 n second (standing_of r last) held) i marked ≡ standing_of (as_branch r) (eqb (marked + 1) n)
+pub way_branch : (n held i marked : ℕ) (r : Reach) → occurs r ≡ true → (last : Bool) → 1 ≤ i →
+    way_of (ways_of 4 n false (standing_of r last) held) i marked ≡ standing_of (as_branch r) (eqb (marked + 1) n)
 unfolding ways_of way_of
-way_branch n second held i marked r h last k =
-    by_standing (λ r last. way_of (ways_of 4 n second (standing_of r last) held) i marked ≡ standing_of (as_branch r) (eqb (marked + 1) n)) (λ _ _ _ _. none)
+way_branch n held i marked r h last k =
+    by_standing (λ r last. way_of (ways_of 4 n false (standing_of r last) held) i marked ≡ standing_of (as_branch r) (eqb (marked + 1) n)) (λ _ _ _ _. none)
     (λ _. one) (λ _. one) one one one one r h last
   where
     z : eqb i 0 ≡ false
     z = ne_eqb i 0 (λ e. omega arith)
 
-    none : way_of (ways 0 0 0 0 held) i marked ≡ 0
-    none = way_fixed 0 0 0 held i marked ∙ rw z (pick_same (eqb i 2) 0)
+    none : way_of (ways Outside Outside Outside 0 held) i marked ≡ Outside
+    none = way_fixed Outside Outside Outside held i marked ∙ rw z (pick_same (eqb i 2) Outside)
 
-    one : way_of (ways 0 3 3 n held) i marked ≡ pick (eqb (marked + 1) n) 4 3
-    one = rw (z, pick_same {A = ℕ} (eqb i 2) 3)
+    one : way_of (ways Outside Branch Branch n held) i marked ≡ pick (eqb (marked + 1) n) LastBranch Branch
+    one = rw (z, pick_same (eqb i 2) Branch)
 
-pub alternative_inner : (n second held standing : ℕ) → (ways_of 4 n second standing held).inner ≡ held
+pub alternative_inner : (n held : ℕ) (standing : Standing) → (ways_of 4 n false standing held).inner ≡ held
 unfolding ways_of
-alternative_inner n second held standing = go (eqb standing 0)
-  where
-    go : (t : Bool) → (pick t (ways 0 0 0 0 held) (ways 0 3 3 n held)).inner ≡ held
-    go true = refl
-    go false = refl
+alternative_inner n held Outside = refl
+alternative_inner n held _ = refl
 
 -- the product of the counts down to a loop's body; the cap on a product is never seen
 abbrev pub down_to : Bool → ℕ → ℕ → ℕ
@@ -133,14 +128,11 @@ cap_mul p (suc n) = go (leb p 1000000) refl
         let b : 1000000 * suc n ≤ p * suc n = mul-le-mul_right (suc n) (omega arith) in
         rw k (omega arith)
 
-pub inner_law : (count second product held : ℕ) → count ≤ 1000000 → held ≡ min 1000000 product →
-    inner_of count second held ≡ min 1000000 (down_to (eqb second 1) count product)
+pub inner_law : (count : ℕ) (scope : Bool) (product held : ℕ) → count ≤ 1000000 → held ≡ min 1000000 product →
+    inner_of count scope held ≡ min 1000000 (down_to scope count product)
 unfolding inner_of
-inner_law count second product held small h = go (eqb second 1)
-  where
-    go : (scope : Bool) → pick scope count (min 1000000 (held * count)) ≡ min 1000000 (down_to scope count product)
-    go true = omega arith
-    go false = rw h (cap_mul product count)
+inner_law count true product held small h = omega arith
+inner_law count false product held small h = rw h (cap_mul product count)
 
 -- A record is judged alike: whether a marker is STRAY, and if not, whether it leaves NO PLAIN BRANCH.
 marker_alike : (at : ℕ) (good : Reading Record) (r : Reach) → occurs r ≡ true → (last : Bool) →
@@ -156,7 +148,7 @@ placed_alike : (at : ℕ) (x : Record) (good : Reading Record) (r : Reach) → o
 unfolding refuse
 placed_alike at x good r h last = go (eqb x.kind 9)
   where
-    st : ℕ
+    st : Standing
     st = standing_of r last
 
     go : (t : Bool) → refuse (pick t (not (may_mark (reach_of st))) false) 9 at (refuse (pick t (last_of st) false) 10 at good)

@@ -5,7 +5,6 @@ use borrow.Fn.World.{ArgsD, ResD}
 use borrow.Fn.Kinds.{ended_of}
 use denote.Triple.Clauses.{AtExit}
 use Rattle.reader.specs.declared.Answer.{Answer}
-use Rattle.reader.specs.declared.Answer.TheVariants.{Accepted, Refused}
 use Rattle.reader.specs.Said.{said_of}
 use Rattle.calculator.specs.contracts.fill as fill
 use Rattle.calculator.proofs.fill.Kinds as fill-kinds
@@ -19,14 +18,12 @@ use Rattle.calculator.proofs.routine_places.Reads as places-reads
 use Rattle.calculator.specs.contracts.routine_records as records
 use Rattle.calculator.proofs.routine_records.Kinds as records-kinds
 use Rattle.calculator.proofs.routine_records.Reads as records-reads
+use Rattle.reader.proofs.Answers.{said_same}
 use Rattle.calculator.proofs.Demands.{Meets}
 
 -- what is said names one answer
 pub one_answer : (a b : Answer) → said_of a ≡ said_of b → a ≡ b
-one_answer (Accepted x) (Accepted y) e = cc
-one_answer (Accepted x) (Refused n p) e = cc
-one_answer (Refused n p) (Accepted y) e = cc
-one_answer (Refused n p) (Refused m q) e = cc
+one_answer a b = said_same
 
 -- `fill`: of the sheet a .0 and the table a .1 .0, the answer, the number of routines and the constructs valued r and the table after, s.1.0
 module _ (κs : Lfts 2) (a : ArgsD fill.signature κs) where

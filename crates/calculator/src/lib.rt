@@ -7,9 +7,9 @@ ghost use Rattle.meaning.specs.Work.{work};
 ghost use Rattle.reader.specs.Said.{said_of};
 ghost use Rattle.reader.specs.Reports.{stored_of};
 ghost use Rattle.calculator.specs.Promises.{filled, part_at};
-ghost use Rattle.calculator.specs.Steps.{is_accepted};
 
 use reader::{Answer, Bounds};
+use records::Fault;
 
 // Where the records of a routine start and end.
 #[derive(Clone, Copy)]
@@ -26,26 +26,26 @@ pub struct Filled {
     pub constructs: u64,
 }
 
-fn is_accepted(answer: Answer) -> bool
-    ensures { result ≡ is_accepted answer }
-{
-    match answer {
-        Answer::Accepted(_) => true,
-        Answer::Refused(_, _) => false,
+impl Filled {
+    // A refusal fills and counts nothing.
+    fn none(answer: Answer) -> Filled
+        ensures { result ≡ record { answer = answer; routines = 0; constructs = 0 } }
+    {
+        Filled {
+            answer,
+            routines: 0,
+            constructs: 0,
+        }
     }
 }
 
 // The bounds into the lent table, at acceptance.
-fn copy_out(b: Bounds, table: &mut [u64])
-    requires { (b.count ≤ 64) × (64 ≤ length table.old) }
-    ensures { table.new ≡ stored_of b table.old }
+fn copy_out(bounds: Bounds, table: &mut [u64])
+    requires { (bounds.count ≤ 64) × (64 ≤ length table.old) }
+    ensures { table.new ≡ stored_of bounds table.old }
 {
-    let n = b.count as usize;
-    let mut i: usize = 0;
-    while i < n {
-        table[i] = b.values[i];
-        i += 1;
-    }
+    let n = bounds.count as usize;
+    table[..n].copy_from_slice(&bounds.values[..n]);
 }
 
 // Answers a sheet and, on acceptance, fills the table with the bounds of its routines. That they are at most 64 follows from the rest, and is
@@ -59,30 +59,23 @@ pub fn fill(sheet: &[u8], table: &mut [u64]) -> Filled
 {
     let no_room = table.len() < 64;
     if no_room {
-        return Filled {
-            answer: Answer::Refused(1, 0),
-            routines: 0,
-            constructs: 0,
-        };
+        return Filled::none(Answer::Refused(Fault::NoRoom, 0));
     }
     let report = reader::read(sheet, 0);
-    let reply = report.reply;
-    let answer = reply.answer;
-    if is_accepted(answer) {
-        let b = report.bounds;
-        let routines = b.count;
-        let constructs = b.constructs;
-        copy_out(b, table);
-        return Filled {
-            answer: answer,
-            routines: routines,
-            constructs: constructs,
-        };
-    }
-    Filled {
-        answer: answer,
-        routines: 0,
-        constructs: 0,
+    let answer = report.reply.answer;
+    match answer {
+        Answer::Accepted(_) => {
+            let bounds = report.bounds;
+            let routines = bounds.count;
+            let constructs = bounds.constructs;
+            copy_out(bounds, table);
+            Filled {
+                answer,
+                routines,
+                constructs,
+            }
+        }
+        Answer::Refused(_, _) => Filled::none(answer),
     }
 }
 
@@ -91,28 +84,21 @@ pub fn maxt(sheet: &[u8], table: &mut [u64]) -> Answer
     ensures result_value { said_of result ≡ answer sheet.now (length table.old) }
     ensures table_after { table.new ≡ table_after sheet.now table.old }
 {
-    let f = fill(sheet, table);
-    f.answer
+    fill(sheet, table).answer
 }
 
 // Where a routine's records start and end; the sheet's end for both where there is no such routine.
 pub fn routine_places(sheet: &[u8], number: u64) -> Places
     ensures { part_at result ≡ part_of sheet.now number }
 {
-    let report = reader::read(sheet, number);
-    let reply = report.reply;
-    Places {
-        start: reply.start,
-        end: reply.end,
-    }
+    let reader::Reply { start, end, .. } = reader::read(sheet, number).reply;
+    Places { start, end }
 }
 
 // A routine's records as a part of the sheet.
 pub fn routine_records(sheet: &[u8], number: u64) -> &[u8]
     ensures { result.now ≡ routine_part sheet.now number }
 {
-    let places = routine_places(sheet, number);
-    let start = places.start;
-    let end = places.end;
+    let Places { start, end } = routine_places(sheet, number);
     &sheet[start..end]
 }

@@ -8,14 +8,8 @@ ghost use Rattle.console.specs.Reading.{told_of, Within, Gives, GivesAll};
 use std::io;
 use std::io::{Cursor, Read};
 
-// How much was read before the end of the input or of the room for it, or why a read failed.
-#[derive(Drop)]
-enum Got {
-    Bytes(usize),
-    Failed(io::Error),
-}
-
 // How many bytes stand at the start of a room, and why a read failed before the input or the room ended.
+// No `Result`: a read that fails leaves what was read before it.
 #[derive(Drop)]
 struct Taken {
     count: usize,
@@ -23,25 +17,19 @@ struct Taken {
 }
 
 // One byte more than a sheet may have: what comes after it changes no answer (lines, Enough.enough).
-fn no_input() -> [u8; 60001]
-    ensures { 60001 ≡ length result }
-{
-    [0; 60001]
-}
+const ROOM: usize = 60001;
 
 // What a read into the rest of the room came to, by what it answered.
-fn told(answer: io::Result<usize>, rest: &[u8]) -> Got
+fn told(answer: io::Result<usize>, rest: &[u8]) -> io::Result<usize>
     ensures value { result ≡ told_of answer (length rest.now) }
     ensures within { Within (length rest.now) 0 result }
 {
-    match answer {
-        Ok(n) => Got::Bytes(n.min(rest.len())),
-        Err(error) => Got::Failed(error),
-    }
+    let n = answer?;
+    Ok(n.min(rest.len()))
 }
 
 // One read into the room from a place on; no bytes at the end of the input.
-fn read_some<R: Read>(from: &mut R, input: &mut [u8], at: usize) -> Got
+fn read_some<R: Read>(from: &mut R, input: &mut [u8], at: usize) -> io::Result<usize>
     requires { at ≤ length input.old }
     ensures within { Within (length input.old) at result }
     ensures front { take at input.new ≡ take at input.old }
@@ -60,32 +48,34 @@ fn take_in<R: Read>(from: &mut R, input: &mut [u8]) -> Taken
 {
     let room = input.len();
     let mut count: usize = 0;
+    // no `for`: how far a read comes is known only after it
     while count < room {
         match read_some(from, input, count) {
-            Got::Bytes(0) => {
-                let failed = None;
-                return Taken { count, failed };
-            }
-            Got::Bytes(n) => count += n,
-            Got::Failed(error) => {
-                let failed = Some(error);
-                return Taken { count, failed };
+            Ok(0) => break,
+            Ok(n) => count += n,
+            Err(error) => {
+                return Taken {
+                    count,
+                    failed: Some(error),
+                };
             }
         }
     }
-    let failed = None;
-    Taken { count, failed }
+    Taken {
+        count,
+        failed: None,
+    }
 }
 
 // Reads until the input or the room for it ends; what was read stands at the start.
-fn read_input<R: Read>(from: &mut R, input: &mut [u8]) -> Got
+fn read_input<R: Read>(from: &mut R, input: &mut [u8]) -> io::Result<usize>
     ensures within { Within (length input.old) 0 result }
     ensures gives { GivesAll (R.remaining from.old) (R.remaining from.new) input.new result }
 {
     let Taken { count, failed } = take_in(from, input);
     match failed {
-        Some(error) => Got::Failed(error),
-        None => Got::Bytes(count),
+        Some(error) => Err(error),
+        None => Ok(count),
     }
 }
 
@@ -94,8 +84,7 @@ pub fn read_full<R: Read>(from: &mut R, input: &mut [u8]) -> usize
     ensures within { result ≤ length input.new }
     ensures bytes { Consumes (R.remaining from.old) (R.remaining from.new) (take result input.new) }
 {
-    let taken = take_in(from, input);
-    taken.count
+    take_in(from, input).count
 }
 
 // How many bytes of an error's text say what failed: behind them std puts the system's number for it, as in " (os error 21)".
@@ -137,10 +126,9 @@ fn print(rt: &HostRuntime, sheet: &[u8]) {
 
 // Reads a sheet and prints its answer. A read that fails is said on standard error, and there is no answer.
 pub fn answer(rt: &HostRuntime, from: &mut impl Read, name: &[u8]) {
-    let mut input = no_input();
-    let got = read_input(from, &mut input);
-    match got {
-        Got::Failed(error) => fail(rt, name, error),
-        Got::Bytes(n) => print(rt, &input[..n]),
+    let mut input = [0; ROOM];
+    match read_input(from, &mut input) {
+        Ok(n) => print(rt, &input[..n]),
+        Err(error) => fail(rt, name, error),
     }
 }

@@ -26,7 +26,7 @@ fn count(rt: &HostRuntime, name: &[u8]) {
         Ok(mut from) => console::read_full(&mut from, &mut sheet),
         Err(_) => 0,
     };
-    let mut table: [u64; 64] = [0; 64];
+    let mut table = [0; 64];
     let filled = calculator::fill(&sheet[..n], &mut table);
     let _ = println!(rt; "constructs {}", filled.constructs);
 }

@@ -4,13 +4,17 @@ use mathlib.Core.Path.{◌≡◌, refl, sym, ap, subst, ◌∙◌}
 use mathlib.Core.Bool.{Bool, true, false}
 use mathlib.Core.List.{List}
 use mathlib.Core.Logic.{◌⊎◌, inl, inr}
-use lib.ListN.{length, take, drop, get_or-append}
+use lib.ListN.{length, get_or, take, drop, get_or-append}
+use lib.Seq.{length-take-le}
 use lib.IntN.{ℤ, pos, negsuc}
 use lib.Dec.{ltb}
 use borrow.Author.Tests.{ltb-true, ltb-false, lt-ltb, le-ltb}
 use native.Mathlib.Omega.{arith}
 use native.Mathlib.Nat.{not-suc-le-zero}
 use native.Mathlib.Numerals.{add-one}
+use Rattle.std.specs.Prelude.{Option, Some, None}
+use Rattle.std.proofs.lemmas.List.{get_or-take}
+use Rattle.std.proofs.lemmas.List.Elements.{All-from_get_or}
 use Rattle.meaning.specs.Tree.{Sheet, numbered}
 use Rattle.meaning.specs.Format.{pick}
 use Rattle.meaning.specs.Value.{nothing, bounds_of, task_bound}
@@ -25,21 +29,13 @@ use Rattle.reader.specs.declared.Answer.{Answer}
 use Rattle.reader.specs.declared.Answer.TheVariants.{Accepted}
 use Rattle.reader.specs.Said.{said_of}
 use Rattle.margins.specs.Margins.{last_deadline, short_list, held_to, planned, margin_of, margins_of, margins_after}
-use Rattle.margins.specs.Steps.{in_range, AtMost}
-use Rattle.margins.proofs.Laws.{left_is, missing_is, those_in_range, next_out, counted, some_out, all_in, margin_at}
+use Rattle.margins.specs.Steps.{out_of_range}
+use Rattle.margins.proofs.Laws.{left_is, missing_is, InRange, IsFirst, some_over, none_over, some_out, all_in, margin_at}
 use Rattle.margins.proofs.Plans.{Long, by_sheet}
 
 -- the deadlines of so many routines are in range
 abbrev pub AllInRange : List ℕ → ℕ → Type 0
 AllInRange deadlines count = (number : ℕ) → 1 ≤ number → number ≤ count → numbered deadlines number 0 ≤ last_deadline
-
--- by their places and by the numbers of their routines
-of_numbers : (deadlines : List ℕ) (count : ℕ) → AtMost last_deadline count deadlines → AllInRange deadlines count
-of_numbers deadlines count h zero low high = absurd (not-suc-le-zero low)
-of_numbers deadlines count h (suc i) low high = h i high
-
-of_places : (deadlines : List ℕ) (count : ℕ) → AllInRange deadlines count → AtMost last_deadline count deadlines
-of_places deadlines count h i less = h (suc i) (omega arith) less
 
 -- "the first routine out of range" has this number: its deadline is out of range, and none of those before it is
 pub record FirstBad (deadlines : List ℕ) (count number : ℕ) : Type 0 where
@@ -48,16 +44,43 @@ pub record FirstBad (deadlines : List ℕ) (count number : ℕ) : Type 0 where
   pub out : last_deadline < numbered deadlines number 0
   pub first : (earlier : ℕ) → 1 ≤ earlier → earlier < number → numbered deadlines earlier 0 ≤ last_deadline
 
-first_bad : (count : ℕ) (deadlines : List ℕ) → count ≤ length deadlines → in_range (take count deadlines) < count →
-    FirstBad deadlines count (in_range (take count deadlines) + 1)
-first_bad count deadlines few h =
-    let before = in_range (take count deadlines) in
-    record {
-      low = omega arith;
-      high = omega arith;
-      out = subst (λ k. last_deadline < numbered deadlines k 0) (sym (add-one before)) (next_out count deadlines few h);
-      first = λ earlier low less. of_numbers deadlines before (those_in_range count deadlines) earlier low (omega arith);
-    }
+-- the deadlines of the first routines, by their places and by the numbers of the routines
+module _ (deadlines : List ℕ) (count : ℕ) (few : count ≤ length deadlines) where
+  taken : length (take count deadlines) ≡ count
+  taken = length-take-le count deadlines few
+
+  by_numbers : (m : ℕ) → m ≤ count → ((i : ℕ) → i < m → get_or (take count deadlines) i 0 ≤ last_deadline) → AllInRange deadlines m
+  by_numbers m less h zero low high = absurd (not-suc-le-zero low)
+  by_numbers m less h (suc i) low high = rw (get_or-take count deadlines i 0 (omega arith)) at (h i high)
+
+  by_places : (m : ℕ) → m ≤ count → AllInRange deadlines m → (i : ℕ) → i < m → get_or (take count deadlines) i 0 ≤ last_deadline
+  by_places m less h i inside = rw (get_or-take count deadlines i 0 (omega arith)) (h (suc i) (omega arith) inside)
+
+  all_numbers : InRange (take count deadlines) → AllInRange deadlines count
+  all_numbers h = by_numbers count (omega arith) (λ i inside. h i 0 (omega (arith, taken)))
+
+  all_places : AllInRange deadlines count → InRange (take count deadlines)
+  all_places h =
+      All-from_get_or (λ d. d ≤ last_deadline) (take count deadlines) 0 (λ i inside. by_places count (omega arith) h i (omega (arith, taken)))
+
+  first_number : {i : ℕ} → IsFirst (take count deadlines) i → FirstBad deadlines count (i + 1)
+  first_number {i} f =
+      let inside : i < count = omega (arith, taken, f.within) in
+      record {
+        low = omega arith;
+        high = omega arith;
+        out = subst (λ k. last_deadline < numbered deadlines k 0) (sym (add-one i)) (rw (get_or-take count deadlines i 0 inside) at f.over);
+        first = λ earlier low less. by_numbers i (omega arith) f.before earlier low (omega arith);
+      }
+
+  first_place : {i : ℕ} → FirstBad deadlines count (suc i) → IsFirst (take count deadlines) i
+  first_place {i} bad =
+      let inside : i < count = bad.high in
+      record {
+        within = omega (arith, taken);
+        over = rw (get_or-take count deadlines i 0 inside) bad.out;
+        before = by_places i (omega arith) (λ number low high. bad.first number low (omega arith));
+      }
 
 -- What becomes of a sheet and three lists: each refusal exactly when it is due, in the order of the list.
 module _ (s table deadlines : List ℕ) (margins : List ℤ) where
@@ -73,7 +96,7 @@ module _ (s table deadlines : List ℕ) (margins : List ℤ) where
 
   -- an accepted sheet's deadlines, by the first of its routines that is out of range
   by_deadlines : LongEnough → (t : Sheet) → outcome s ≡ accepted t → Decided (held_to deadlines (accepted t))
-  by_deadlines long t e = go (ltb (in_range (take n deadlines)) n) refl
+  by_deadlines long t e = go (out_of_range (take n deadlines)) refl
     where
       n : ℕ
       n = length t.routines
@@ -81,14 +104,13 @@ module _ (s table deadlines : List ℕ) (margins : List ℤ) where
       few : n ≤ length deadlines
       few = omega (arith, few_routines s t e, long.for_deadlines)
 
-      go : (test : Bool) → ltb (in_range (take n deadlines)) n ≡ test → Decided (held_to deadlines (accepted t))
-      go true q =
-          let h = ltb-true (in_range (take n deadlines)) n q in
-          rw (some_out t deadlines few h) (bad_deadline long e (first_bad n deadlines few h))
-      go false q =
-          let h = ltb-false (in_range (take n deadlines)) n q in
-          rw (all_in t deadlines few h)
-          (good long e (λ number low high. of_numbers deadlines (in_range (take n deadlines)) (those_in_range n deadlines) number low (omega arith)))
+      go : (o : Option ℕ) → out_of_range (take n deadlines) ≡ o → Decided (held_to deadlines (accepted t))
+      go None q =
+          let h = none_over (take n deadlines) q in
+          rw (all_in t deadlines h) (good long e (all_numbers deadlines n few h))
+      go (Some i) q =
+          let h = some_over (take n deadlines) q in
+          rw (some_out t deadlines h) (bad_deadline long e (first_number deadlines n few h))
 
   -- every sheet and every three lists are decided so, and what is decided so comes back
   pub decided : Decided (planned s table deadlines margins)
@@ -123,15 +145,12 @@ module _ (s table deadlines : List ℕ) (margins : List ℤ) where
   planned_is (sheet_refused long e) = by_sheet s table deadlines margins long ∙ ap (held_to deadlines) e
   planned_is (bad_deadline {t = t} {number = zero} long e bad) = absurd (not-suc-le-zero bad.low)
   planned_is (bad_deadline {t = t} {number = suc i} long e bad) =
-      let few = few_routines s t e in
-      let earlier = of_places deadlines i (λ number low high. bad.first number low (omega arith)) in
-      let here = counted i (length t.routines) deadlines (omega (arith, bad.high)) (omega (arith, long.for_deadlines)) earlier (λ less. bad.out) in
-      by_sheet s table deadlines margins long ∙ ap (held_to deadlines) e ∙ some_out t deadlines (omega (arith, long.for_deadlines)) (omega (arith, bad.high)) ∙ ap (λ k. refused 14 k) (omega arith)
+      let few : length t.routines ≤ length deadlines = omega (arith, few_routines s t e, long.for_deadlines) in
+      by_sheet s table deadlines margins long ∙ ap (held_to deadlines) e ∙ some_out t deadlines (first_place deadlines (length t.routines) few bad)
+      ∙ ap (λ k. refused 14 k) (omega arith)
   planned_is (good {t = t} long e all) =
-      let few = few_routines s t e in
-      let n = length t.routines in
-      let here = counted n n deadlines (omega arith) (omega (arith, long.for_deadlines)) (of_places deadlines n all) (λ less. omega arith) in
-      by_sheet s table deadlines margins long ∙ ap (held_to deadlines) e ∙ all_in t deadlines (omega (arith, long.for_deadlines)) (omega arith)
+      let few : length t.routines ≤ length deadlines = omega (arith, few_routines s t e, long.for_deadlines) in
+      by_sheet s table deadlines margins long ∙ ap (held_to deadlines) e ∙ all_in t deadlines (all_places deadlines (length t.routines) few all)
 
   -- DEMANDS 1 and 2: a refusal, which leaves all lists as they were, or the bound, and the bounds and margins in the lists
   pub data Answered : Verdict ℕ → List ℕ → List ℤ → Type 0 where

@@ -1,25 +1,29 @@
 -- What the margins' definitions come to, for the code and for those who read the margins.
 use Prim.Native.Nat.{ℕ, zero, suc, ◌+◌, ◌-◌, ◌≤◌, ◌<◌, zero-le, suc-le-suc}
-use mathlib.Core.Path.{◌≡◌, refl, sym, ap, ◌∙◌, subst}
-use mathlib.Core.Bool.{Bool, true, false}
-use mathlib.Core.List.{List, [], ◌∷◌, ◌++◌}
+use mathlib.Core.Path.{◌≡◌, refl, sym, ap, ◌∙◌}
+use mathlib.Core.Bool.{Bool, true, false, cond}
+use mathlib.Core.List.{List, [], ◌∷◌}
 use mathlib.Core.Option.{some, none}
-use lib.ListN.{length, get_or, set, take, drop}
-use lib.Seq.{length-take-le}
-use lib.IntN.{ℤ, pos, negsuc, nat_abs, pos-ne-negsuc, ◌-ℤ◌}
+use lib.ListN.{length, get_or, set, take}
+use lib.Seq.{paste}
+use lib.IntN.{ℤ, pos, negsuc, nat_abs, pos-ne-negsuc}
 use lib.Dec.{ltb}
 use mir.Syntax.{w64}
 use mir.Val.{SFits, to_z, of_z}
-use mir.ValLaws.{to_z_pos, to_z-of_z}
+use mir.ValLaws.{to_z-of_z}
 use borrow.Author.Tests.{ltb-true, ltb-false, lt-ltb, le-ltb}
 use native.Mathlib.Omega.{arith}
-use native.Mathlib.Nat.{le_of_suc-le-suc, not-suc-le-zero}
-use Rattle.meaning.specs.Format.{pick}
+use native.Mathlib.Nat.{le_of_suc-le-suc, not-suc-le-zero, zero-add}
+use Rattle.std.specs.Prelude.{Some, None}
+use Rattle.std.specs.List.{All, position_or_len}
+use Rattle.std.proofs.lemmas.List.Edits.{paste_more}
+use Rattle.std.proofs.lemmas.List.Elements.{All-head, All-tail}
+use Rattle.std.proofs.lemmas.List.Quantifiers.{position-Some}
+use Rattle.std.proofs.lemmas.List.Sums.{fails_before_first}
 use Rattle.meaning.specs.Tree.{Sheet}
 use Rattle.meaning.specs.Answer.{accepted, refused, value_limit}
-use Rattle.calculator.proofs.Laws.{stored_more}
 use Rattle.margins.specs.Margins.{last_deadline, deadlines_of, first_out, held_to, margin_of, margins_of}
-use Rattle.margins.specs.Steps.{in_range, AtMost}
+use Rattle.margins.specs.Steps.{out_of_range}
 
 -- a routine that is late has the cycles that are missing, below 0; one that is early or just fits those that are left
 pub late : (deadline bound : ℕ) → deadline < bound → margin_of deadline bound ≡ negsuc (bound - suc deadline)
@@ -59,65 +63,32 @@ margin_fits deadline bound h k = go (ltb deadline bound) refl
     go true e = record { sfits = rw (late deadline bound (ltb-true deadline bound e)) (omega arith) }
     go false e = record { sfits = rw (in_time deadline bound (ltb-false deadline bound e)) (omega arith) }
 
--- a number under the limits is the same read as signed
-cast_keeps : (n : ℕ) → n ≤ value_limit → to_z w64 n ≡ pos n
-cast_keeps n h = to_z_pos w64 n (omega arith)
+-- each deadline of a list is in range
+abbrev pub InRange : List ℕ → Type 0
+InRange = All (λ d. d ≤ last_deadline)
 
--- the difference of what is cast fits, and is the margin once it is read back
-module _ (deadline bound : ℕ) (few : (deadline ≤ last_deadline) × (bound ≤ value_limit)) where
-  difference_is : to_z w64 deadline -ℤ to_z w64 bound ≡ margin_of deadline bound
-  difference_is = rw (cast_keeps deadline few.0, cast_keeps bound few.1)
+-- the first deadline of a list that is out of range has this place
+pub record IsFirst (deadlines : List ℕ) (i : ℕ) : Type 0 where
+  pub within : i < length deadlines
+  pub over : last_deadline < get_or deadlines i 0
+  pub before : (k : ℕ) → k < i → get_or deadlines k 0 ≤ last_deadline
 
-  pub difference_fits : SFits w64 (to_z w64 deadline -ℤ to_z w64 bound)
-  difference_fits = rw difference_is (margin_fits deadline bound few.0 few.1)
+pub some_over : (deadlines : List ℕ) {i : ℕ} → out_of_range deadlines ≡ Some i → IsFirst deadlines i
+some_over deadlines {i} e =
+    let p = position-Some (λ d. ltb last_deadline d) deadlines i 0 e in
+    record { within = p.0; over = ltb-true last_deadline _ p.1; before = λ k h. ltb-false last_deadline _ (p.2 k h) }
 
-  pub difference_read : to_z w64 (of_z w64 (to_z w64 deadline -ℤ to_z w64 bound)) ≡ margin_of deadline bound
-  difference_read = to_z-of_z w64 _ difference_fits ∙ difference_is
-
--- the deadlines before the first that is out of range are in range
-pub those_in_range : (n : ℕ) (deadlines : List ℕ) → AtMost last_deadline (in_range (take n deadlines)) deadlines
-unfolding in_range
-those_in_range zero deadlines i h = absurd (not-suc-le-zero h)
-those_in_range (suc n) [] i h = zero-le
-those_in_range (suc n) (d ∷ ds) i h = go (ltb last_deadline d) refl (those_in_range n ds) i h
+pub none_over : (deadlines : List ℕ) → out_of_range deadlines ≡ None → InRange deadlines
+none_over deadlines e = go (ltb before (length deadlines)) refl e
   where
-    go : (t : Bool) → ltb last_deadline d ≡ t → {more : ℕ} → AtMost last_deadline more ds → AtMost last_deadline (pick t 0 (suc more)) (d ∷ ds)
-    go true e rest i h = absurd (not-suc-le-zero h)
-    go false e rest zero h = ltb-false last_deadline d e
-    go false e rest (suc i) h = rest i (le_of_suc-le-suc h)
+    before : ℕ
+    before = position_or_len (λ d. ltb last_deadline d) deadlines
 
--- and the next of the n is not
-pub next_out : (n : ℕ) (deadlines : List ℕ) → n ≤ length deadlines → in_range (take n deadlines) < n → last_deadline < get_or deadlines (in_range (take n deadlines)) 0
-unfolding in_range
-next_out zero deadlines k h = absurd (not-suc-le-zero h)
-next_out (suc n) [] k h = absurd (not-suc-le-zero k)
-next_out (suc n) (d ∷ ds) k h = go (ltb last_deadline d) refl (next_out n ds (le_of_suc-le-suc k)) h
-  where
-    go : (t : Bool) → ltb last_deadline d ≡ t → (in_range (take n ds) < n → last_deadline < get_or ds (in_range (take n ds)) 0) →
-        pick t 0 (suc (in_range (take n ds))) < suc n → last_deadline < get_or (d ∷ ds) (pick t 0 (suc (in_range (take n ds)))) 0
-    go true e rest h = ltb-true last_deadline d e
-    go false e rest h = rest (le_of_suc-le-suc h)
-
--- one more number is at most this
-pub at_most_more : (most n : ℕ) (xs : List ℕ) → AtMost most n xs → get_or xs n 0 ≤ most → AtMost most (n + 1) xs
-at_most_more most n xs h k i l = go (ltb i n) refl
-  where
-    go : (t : Bool) → ltb i n ≡ t → get_or xs i 0 ≤ most
-    go true e = h i (ltb-true i n e)
-    go false e = let last : n ≡ i = omega (arith, ltb-false i n e) in subst (λ j. get_or xs j 0 ≤ most) last k
-
--- i deadlines are in range, and the next of the n is not
-pub counted : (i n : ℕ) (deadlines : List ℕ) → i ≤ n → n ≤ length deadlines → AtMost last_deadline i deadlines →
-    (i < n → last_deadline < get_or deadlines i 0) → i ≡ in_range (take n deadlines)
-unfolding in_range
-counted zero zero ds h k in-range next = refl
-counted zero (suc n) [] h k in-range next = refl
-counted zero (suc n) (d ∷ ds) h k in-range next = rw (lt-ltb last_deadline d (next (omega arith)))
-counted (suc i) zero ds h k in-range next = absurd (not-suc-le-zero h)
-counted (suc i) (suc n) [] h k in-range next = absurd (not-suc-le-zero k)
-counted (suc i) (suc n) (d ∷ ds) h k in-range next =
-    rw (le-ltb last_deadline d (in-range zero (suc-le-suc zero-le)))
-    (ap suc (counted i n ds (le_of_suc-le-suc h) (le_of_suc-le-suc k) (λ j l. in-range (suc j) (suc-le-suc l)) (λ l. next (suc-le-suc l))))
+    go : (t : Bool) → ltb before (length deadlines) ≡ t → cond t (Some before) None ≡ None → InRange deadlines
+    go true q e = cc
+    go false q e = λ k d h.
+        let all = ltb-false before (length deadlines) q in
+        ltb-false last_deadline _ (fails_before_first (λ d. ltb last_deadline d) deadlines k d (omega arith))
 
 -- the margin of each routine that has a deadline and a bound
 pub margin_at : (i : ℕ) (deadlines bounds : List ℕ) → i < length deadlines → i < length bounds →
@@ -130,53 +101,50 @@ margin_at (suc i) (d ∷ ds) (b ∷ bs) h k =
     let (inside, same) = margin_at i ds bs (le_of_suc-le-suc h) (le_of_suc-le-suc k) in
     (suc-le-suc inside, same)
 
--- one margin more: what is stored is read back from its bits
-pub margins_more : (deadlines bounds : List ℕ) (margins : List ℤ) (i : ℕ) {z : ℤ} → i < length deadlines → i < length bounds → i < length margins →
-    (get_or deadlines i 0 ≤ last_deadline) × (get_or bounds i 0 ≤ value_limit) → z ≡ margin_of (get_or deadlines i 0) (get_or bounds i 0) →
-    set (take i (margins_of deadlines bounds) ++ drop i margins) i (to_z w64 (of_z w64 z)) ≡ take (i + 1) (margins_of deadlines bounds) ++ drop (i + 1) margins
-margins_more deadlines bounds margins i h k l few e =
-    let (inside, same) = margin_at i deadlines bounds h k in
-    rw (e, to_z-of_z w64 _ (margin_fits (get_or deadlines i 0) (get_or bounds i 0) few.0 few.1), ← same)
-    (stored_more (pos 0) (margins_of deadlines bounds) margins i inside l)
-
--- bounds after those of the routines have no part in their margins
-pub margins_first : (deadlines bounds others : List ℕ) → length bounds ≤ length deadlines →
-    take (length bounds) (margins_of deadlines (bounds ++ others)) ≡ margins_of deadlines bounds
+-- as many margins as bounds, where each has its deadline
+pub length_margins : (deadlines bounds : List ℕ) → length bounds ≤ length deadlines → length (margins_of deadlines bounds) ≡ length bounds
 unfolding margins_of
-margins_first [] [] others h = refl
-margins_first (d ∷ ds) [] others h = refl
-margins_first [] (b ∷ bs) others h = absurd (not-suc-le-zero h)
-margins_first (d ∷ ds) (b ∷ bs) others h = ap (λ r. margin_of d b ∷ r) (margins_first ds bs others (le_of_suc-le-suc h))
+length_margins [] [] h = refl
+length_margins (d ∷ ds) [] h = refl
+length_margins [] (b ∷ bs) h = absurd (not-suc-le-zero h)
+length_margins (d ∷ ds) (b ∷ bs) h = ap suc (length_margins ds bs (le_of_suc-le-suc h))
+
+-- one margin more: what is stored is read back from its bits
+pub margins_more : (deadlines bounds : List ℕ) (margins : List ℤ) (i : ℕ) {z : ℤ} → length bounds ≤ length deadlines → i < length bounds →
+    length bounds ≤ length margins → (get_or deadlines i 0 ≤ last_deadline) × (get_or bounds i 0 ≤ value_limit) →
+    z ≡ margin_of (get_or deadlines i 0) (get_or bounds i 0) →
+    set (paste margins 0 (margins_of deadlines bounds) i) i (to_z w64 (of_z w64 z)) ≡ paste margins 0 (margins_of deadlines bounds) (i + 1)
+margins_more deadlines bounds margins i h k l few e =
+    let (inside, same) = margin_at i deadlines bounds (omega arith) k in
+    let more = paste_more margins 0 (margins_of deadlines bounds) i (pos 0) (omega arith) inside in
+    rw (e, to_z-of_z w64 _ (margin_fits (get_or deadlines i 0) (get_or bounds i 0) few.0 few.1), ← same) (simp zero-add (simp zero-add at more))
+
+-- deadlines after those of the routines have no part in their margins
+pub margins_first : (deadlines bounds : List ℕ) → margins_of (take (length bounds) deadlines) bounds ≡ margins_of deadlines bounds
+unfolding margins_of
+margins_first [] [] = refl
+margins_first (d ∷ ds) [] = refl
+margins_first [] (b ∷ bs) = refl
+margins_first (d ∷ ds) (b ∷ bs) = ap (λ r. margin_of d b ∷ r) (margins_first ds bs)
 
 -- the first deadline out of range, and that there is none
-first_out_lem : (number : ℕ) (deadlines : List ℕ) → in_range deadlines < length deadlines → first_out number deadlines ≡ some (number + in_range deadlines)
-unfolding in_range first_out
-first_out_lem number [] h = absurd (not-suc-le-zero h)
-first_out_lem number (d ∷ ds) h = go (ltb last_deadline d) (first_out_lem (suc number) ds) h
-  where
-    go : (t : Bool) → (in_range ds < length ds → first_out (suc number) ds ≡ some (suc number + in_range ds)) → pick t 0 (suc (in_range ds)) < suc (length ds) →
-        pick t (some number) (first_out (suc number) ds) ≡ some (number + pick t 0 (suc (in_range ds)))
-    go true rest h = ap (λ z. some z) (omega arith)
-    go false rest h = rest (omega arith) ∙ ap (λ z. some z) (omega arith)
+first_out_lem : (number i : ℕ) (deadlines : List ℕ) → IsFirst deadlines i → first_out number deadlines ≡ some (number + i)
+unfolding first_out
+first_out_lem number i [] f = absurd (not-suc-le-zero f.within)
+first_out_lem number zero (d ∷ ds) f = rw (lt-ltb last_deadline d f.over) (ap (λ z. some z) (omega arith))
+first_out_lem number (suc i) (d ∷ ds) f =
+    let rest : IsFirst ds i = record { within = le_of_suc-le-suc f.within; over = f.over; before = λ k h. f.before (suc k) (suc-le-suc h) } in
+    rw (le-ltb last_deadline d (f.before zero (suc-le-suc zero-le))) (first_out_lem (suc number) i ds rest ∙ ap (λ z. some z) (omega arith))
 
-none_out : (number : ℕ) (deadlines : List ℕ) → length deadlines ≤ in_range deadlines → first_out number deadlines ≡ none
-unfolding in_range first_out
+none_out : (number : ℕ) (deadlines : List ℕ) → InRange deadlines → first_out number deadlines ≡ none
+unfolding first_out
 none_out number [] h = refl
-none_out number (d ∷ ds) h = go (ltb last_deadline d) (none_out (suc number) ds) h
-  where
-    go : (t : Bool) → (length ds ≤ in_range ds → first_out (suc number) ds ≡ none) → suc (length ds) ≤ pick t 0 (suc (in_range ds)) →
-        pick t (some number) (first_out (suc number) ds) ≡ none
-    go true rest h = absurd (not-suc-le-zero h)
-    go false rest h = rest (omega arith)
+none_out number (d ∷ ds) h = rw (le-ltb last_deadline d (All-head (λ d. d ≤ last_deadline) d ds h)) (none_out (suc number) ds (All-tail (λ d. d ≤ last_deadline) d ds h))
 
 -- an accepted sheet with a deadline out of range, and with none
-module _ (t : Sheet) (deadlines : List ℕ) (long : length t.routines ≤ length deadlines) where
-  pub some_out : in_range (deadlines_of t deadlines) < length t.routines → held_to deadlines (accepted t) ≡ refused 14 (in_range (deadlines_of t deadlines) + 1)
-  some_out h =
-      let these = length-take-le (length t.routines) deadlines long in
-      rw (first_out_lem 1 (deadlines_of t deadlines) (omega arith)) (ap (λ k. refused 14 k) (omega arith))
+module _ (t : Sheet) (deadlines : List ℕ) where
+  pub some_out : {i : ℕ} → IsFirst (deadlines_of t deadlines) i → held_to deadlines (accepted t) ≡ refused 14 (i + 1)
+  some_out {i} f = rw (first_out_lem 1 i (deadlines_of t deadlines) f) (ap (λ k. refused 14 k) (omega arith))
 
-  pub all_in : length t.routines ≤ in_range (deadlines_of t deadlines) → held_to deadlines (accepted t) ≡ accepted t
-  all_in h =
-      let these = length-take-le (length t.routines) deadlines long in
-      rw (none_out 1 (deadlines_of t deadlines) (omega arith))
+  pub all_in : InRange (deadlines_of t deadlines) → held_to deadlines (accepted t) ≡ accepted t
+  all_in h = rw (none_out 1 (deadlines_of t deadlines) h)

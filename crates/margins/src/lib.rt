@@ -1,14 +1,15 @@
 // The margin of each routine: by how many cycles its bound keeps its deadline.
 #![tactic(auto)]
 
-ghost use Rattle.std.specs.Prelude.{◌≡◌, ◌++◌, ◌≤◌, length, take, drop};
-ghost use Rattle.meaning.specs.Format.{pick};
+ghost use Rattle.std.specs.Prelude.{◌≡◌, ◌++◌, ◌≤◌, length, drop};
+ghost use Rattle.std.specs.List.{All};
 ghost use Rattle.meaning.specs.Answer.{value_limit, told, stored};
 ghost use Rattle.reader.specs.Said.{said_of};
-ghost use Rattle.margins.specs.Margins.{last_deadline, planned, margin_of, margins_of, margins_after};
-ghost use Rattle.margins.specs.Steps.{in_range, AtMost};
+ghost use Rattle.margins.specs.Margins.{last_deadline, short_list, planned, margin_of, margins_of, margins_after};
+ghost use Rattle.margins.specs.Steps.{out_of_range};
 
 use reader::Answer;
+use records::Fault;
 
 const LAST_DEADLINE: u64 = 1099511627775;
 
@@ -20,41 +21,30 @@ fn margin(deadline: u64, bound: u64) -> i64
     deadline as i64 - bound as i64
 }
 
-// How many of the first n deadlines come before the first that is out of range.
-fn in_range(deadlines: &[u64], n: usize) -> usize
-    requires { n ≤ length deadlines.now }
-    ensures { result ≡ in_range (take n deadlines.now) }
+// Whether one of these lists is too short for 64 routines.
+fn short_list(deadlines: &[u64], margins: &[i64]) -> bool
+    ensures { result ≡ short_list deadlines.now margins.now }
 {
-    let mut i: usize = 0;
-    while i < n {
-        let out_of_range = deadlines[i] > LAST_DEADLINE;
-        if out_of_range {
-            return i;
-        }
-        i += 1;
-    }
-    i
+    deadlines.len() < 64 || margins.len() < 64
 }
 
-// Of how many routines bounds and margins are written.
-fn all_or_none(bad: bool, n: usize) -> usize
-    ensures { result ≡ pick bad 0 n }
+// The place of the first deadline that is out of range, if there is one.
+fn out_of_range(deadlines: &[u64]) -> Option<usize>
+    ensures { result ≡ out_of_range deadlines.now }
 {
-    if bad { 0 } else { n }
+    deadlines.iter().position(|d| *d > LAST_DEADLINE)
 }
 
-// The bounds and the margins of the first n routines into the lent lists.
-fn write_out(bounds: &[u64], deadlines: &[u64], n: usize, table: &mut [u64], margins: &mut [i64])
-    requires n_in_bounds { (n ≤ length bounds.now) × (n ≤ length deadlines.now) × (n ≤ length table.old) × (n ≤ length margins.old) }
-    requires at_most { AtMost value_limit n bounds.now × AtMost last_deadline n deadlines.now }
-    ensures table_after { table.new ≡ take n bounds.now ++ drop n table.old }
-    ensures margins_after { margins.new ≡ take n (margins_of deadlines.now bounds.now) ++ drop n margins.old }
+// The bounds and the margins of the routines into the lent lists.
+fn write_out(bounds: &[u64], deadlines: &[u64], table: &mut [u64], margins: &mut [i64])
+    requires room { let n = length bounds.now in (n ≤ length deadlines.now) × (n ≤ length table.old) × (n ≤ length margins.old) }
+    requires in_range { All (λ b. b ≤ value_limit) bounds.now × All (λ d. d ≤ last_deadline) deadlines.now }
+    ensures table_after { table.new ≡ bounds.now ++ drop (length bounds.now) table.old }
+    ensures margins_after { margins.new ≡ margins_of deadlines.now bounds.now ++ drop (length bounds.now) margins.old }
 {
-    let mut i: usize = 0;
-    while i < n {
-        table[i] = bounds[i];
-        margins[i] = margin(deadlines[i], bounds[i]);
-        i += 1;
+    table[..bounds.len()].copy_from_slice(bounds);
+    for (i, bound) in bounds.iter().enumerate() {
+        margins[i] = margin(deadlines[i], *bound);
     }
 }
 
@@ -69,26 +59,20 @@ pub fn margins(sheet: &[u8], table: &mut [u64], deadlines: &[u64], margins: &mut
 {
     let no_room = table.len() < 64;
     if no_room {
-        return Answer::Refused(1, 0);
+        return Answer::Refused(Fault::NoRoom, 0);
     }
-    let few_deadlines = deadlines.len() < 64;
-    if few_deadlines {
-        return Answer::Refused(13, 0);
+    if short_list(deadlines, margins) {
+        return Answer::Refused(Fault::ShortList, 0);
     }
-    let few_margins = margins.len() < 64;
-    if few_margins {
-        return Answer::Refused(13, 0);
-    }
-    let mut bounds: [u64; 64] = [0; 64];
+    let mut bounds = [0; 64];
     let filled = calculator::fill(sheet, &mut bounds);
     let n = filled.routines as usize;
-    let good = in_range(deadlines, n);
-    let bad = good < n;
-    let written = all_or_none(bad, n);
-    write_out(&bounds, deadlines, written, table, margins);
-    if bad {
-        let number = good + 1;
-        return Answer::Refused(14, number);
+    let judged = &deadlines[..n];
+    match out_of_range(judged) {
+        None => {
+            write_out(&bounds[..n], judged, table, margins);
+            filled.answer
+        }
+        Some(place) => Answer::Refused(Fault::BadDeadline, place + 1),
     }
-    filled.answer
 }

@@ -1,52 +1,77 @@
 -- How the children of a record are read, by its kind: how child i stands, and its passes.
-use Prim.Native.Nat.{ℕ, ◌+◌, min}
+use Prim.Native.Nat.{ℕ, ◌+◌}
 use mathlib.Core.Path.{◌≡◌, refl}
-use mathlib.Core.Bool.{Bool, true, false}
+use mathlib.Core.Bool.{Bool, false}
 use lib.Dec.{eqb}
-use borrow.Author.Tests.{eqb-true, ne_eqb}
+use borrow.Author.Tests.{ne_eqb}
 use native.Mathlib.Omega.{arith}
 use Rattle.meaning.specs.Format.{pick}
 use Rattle.records.specs.declared.Cursor.{Cursor}
-use Rattle.reader.specs.Ways.{lead_of, body_of, inner_of, ways, ways_of, way_of}
+use Rattle.records.specs.declared.standings.Standing.{Standing}
+use Rattle.records.specs.declared.standings.Standing.TheVariants.{Outside, InScope, InAlternative, Branch, LastBranch, Leading, LeadingLast}
+use Rattle.reader.specs.Ways.{lead_of, later_of, body_of, branch_of, inner_of, alternative_ways, ways_of, way_of}
 use Rattle.reader.specs.Reader.{ChildReader, owner_of, child_of}
 use Rattle.reader.proofs.Laws.{pick_same}
 
 -- no branch is the last one where no branches are counted
-none_last : (m : ℕ) (a b : ℕ) → pick (eqb (m + 1) 0) a b ≡ b
+none_last : (m : ℕ) (a b : Standing) → pick (eqb (m + 1) 0) a b ≡ b
 none_last m a b = rw (ne_eqb (m + 1) 0 (λ e. omega arith))
 
-module _ (read : ChildReader) (start standing product i m : ℕ) (c : Cursor) where
-  pub sequence_child : (n : ℕ) {lead rest way : ℕ} → lead ≡ lead_of standing → rest ≡ min 2 standing → way ≡ pick (eqb i 0) lead rest →
-      child_of read (owner_of 3 n 0 start standing product) i m c ≡ read way product c
+module _ (read : ChildReader) (start : ℕ) (standing : Standing) (product m : ℕ) (c : Cursor) where
+  pub sequence_child : (n i : ℕ) {way : Standing} → way ≡ pick (eqb i 0) (lead_of standing) (later_of standing) →
+      child_of read (owner_of 3 n false start standing product) i m c ≡ read way product c
   unfolding ways_of way_of
-  sequence_child n l r w = rw (w, l, r, none_last m 4, pick_same (eqb i 2) (min 2 standing))
+  sequence_child n i w = rw (w, none_last m LastBranch, pick_same (eqb i 2) (later_of standing))
 
-  pub alternative_child : (n : ℕ) {usual last branch way : ℕ} → usual ≡ pick (eqb standing 0) 0 3 → last ≡ pick (eqb standing 0) 0 4 →
-      branch ≡ pick (eqb (m + 1) n) last usual → way ≡ pick (eqb i 0) 0 branch → child_of read (owner_of 4 n 0 start standing product) i m c ≡ read way product c
+  -- an alternative's condition, and a branch
+  pub condition_child : (n : ℕ) → child_of read (owner_of 4 n false start standing product) 0 m c ≡ read Outside product c
   unfolding ways_of way_of
-  alternative_child n u l b w = rw (w, b, u, l) (go (eqb standing 0))
+  condition_child n = go standing
     where
-      go : (z : Bool) →
-          (let w = pick z (ways 0 0 0 0 product) (ways 0 3 3 n product) in
-          read (way_of w i m) w.inner c ≡ read (pick (eqb i 0) 0 (pick (eqb (m + 1) n) (pick z 0 4) (pick z 0 3))) product c)
-      go true = rw (none_last m 4, pick_same {A = ℕ} (eqb i 2) 0, pick_same {A = ℕ} (eqb (m + 1) n) 0)
-      go false = rw (pick_same {A = ℕ} (eqb i 2) 3)
+      go : (z : Standing) → (let w = alternative_ways z n product in read (way_of w 0 m) w.inner c ≡ read Outside product c)
+      go Outside = refl
+      go InScope = refl
+      go InAlternative = refl
+      go Branch = refl
+      go LastBranch = refl
+      go Leading = refl
+      go LeadingLast = refl
 
-  module _ (count scope : ℕ) {body inner way : ℕ} (b : body ≡ body_of scope standing) (p : inner ≡ inner_of count scope product) where
-    pub head_child : way ≡ pick (eqb i 2) body 0 → child_of read (owner_of 5 count scope start standing product) i m c ≡ read way inner c
+  pub branch_child : (n i : ℕ) {last : Bool} {way : Standing} → last ≡ eqb (m + 1) n → way ≡ branch_of standing last →
+      child_of read (owner_of 4 n false start standing product) (i + 1) m c ≡ read way product c
+  unfolding ways_of way_of branch_of
+  branch_child n i l w = rw (w, l, ne_eqb (i + 1) 0 (λ e. omega arith)) (go standing)
+    where
+      In : Standing → Type 0
+      In z =
+          (let w = alternative_ways z n product in
+          read (pick (eqb (m + 1) w.branches) LastBranch (pick (eqb (i + 1) 2) w.third w.others)) w.inner c ≡ read (branch_of z (eqb (m + 1) n)) product c)
+
+      one : read (pick (eqb (m + 1) n) LastBranch (pick (eqb (i + 1) 2) Branch Branch)) product c ≡ read (pick (eqb (m + 1) n) LastBranch Branch) product c
+      one = rw (pick_same {A = Standing} (eqb (i + 1) 2) Branch)
+
+      go : (z : Standing) → In z
+      go Outside = rw (none_last m LastBranch, pick_same {A = Standing} (eqb (i + 1) 2) Outside)
+      go InScope = one
+      go InAlternative = one
+      go Branch = one
+      go LastBranch = one
+      go Leading = one
+      go LeadingLast = one
+
+  -- init, condition and overrun of a head loop, condition and overrun of a tail loop; the body of each
+  module _ (count : ℕ) (scope : Bool) where
+    abbrev Inside : ℕ → ℕ → Standing → Type 0
+    Inside kind i way = child_of read (owner_of kind count scope start standing product) i m c ≡ read way (inner_of count scope product) c
+
+    pub head_child : (Inside 5 0 Outside) × (Inside 5 1 Outside) × (Inside 5 2 (body_of scope standing)) × (Inside 5 3 Outside)
     unfolding ways_of way_of
-    head_child w = rw (w, b, p) (go (eqb i 0) refl)
-      where
-        go : (z : Bool) → eqb i 0 ≡ z →
-            read (pick z 0 (pick (eqb (m + 1) 0) 4 (pick (eqb i 2) (body_of scope standing) 0))) (inner_of count scope product) c
-            ≡ read (pick (eqb i 2) (body_of scope standing) 0) (inner_of count scope product) c
-        go true e = rw (eqb-true i 0 e)
-        go false e = rw (none_last m 4)
+    head_child = (refl, rw (none_last m LastBranch), rw (none_last m LastBranch), rw (none_last m LastBranch))
 
-    pub tail_child : way ≡ pick (eqb i 0) body 0 → child_of read (owner_of 6 count scope start standing product) i m c ≡ read way inner c
+    pub tail_child : (Inside 6 0 (body_of scope standing)) × (Inside 6 1 Outside) × (Inside 6 2 Outside)
     unfolding ways_of way_of
-    tail_child w = rw (w, b, p, none_last m 4, pick_same {A = ℕ} (eqb i 2) 0)
+    tail_child = (refl, rw (none_last m LastBranch), rw (none_last m LastBranch))
 
-  pub timed_child : (time : ℕ) → child_of read (owner_of 7 time 0 start standing product) i m c ≡ read 0 0 c
+  pub timed_child : (time : ℕ) → child_of read (owner_of 7 time false start standing product) 0 m c ≡ read Outside 0 c
   unfolding ways_of way_of
-  timed_child time = rw (none_last m 4, pick_same {A = ℕ} (eqb i 2) 0, pick_same {A = ℕ} (eqb i 0) 0)
+  timed_child time = refl

@@ -6,31 +6,30 @@ use lib.Dec.{ltb}
 use lib.ListN.{length}
 use native.Mathlib.Omega.{arith}
 use Rattle.records.specs.declared.Cursor.{Cursor}
-use Rattle.records.specs.declared.Read.{Read}
-use Rattle.records.specs.declared.Head.{Head}
-use Rattle.records.specs.declared.Head.TheVariants as head
-use Rattle.meaning.specs.Judgement.{sheet}
+use Rattle.records.specs.declared.SheetRecord.{SheetRecord}
+use Rattle.records.specs.Records.{read_as, as_sheet}
+use Rattle.meaning.specs.Judgement.{Reading, sheet, refused, found, judged}
+use Rattle.std.specs.Prelude.{Option}
 use Rattle.records.proofs.Good.{sheet_fine}
 use Rattle.reader.specs.declared.Bounds.{Bounds}
 use Rattle.reader.specs.declared.Progress.{Progress}
-use Rattle.reader.specs.declared.Report.{Report}
 use Rattle.reader.specs.Tallies.{Parsed, Done, Refused}
-use Rattle.reader.specs.Reader.{record_of, on_head, on_parsed, routine_of, no_bounds, bounds_with, progress_from, progress_with}
+use Rattle.reader.specs.Reader.{Report, on_reading, on_parsed, routine_of, no_bounds, bounds_with, progress_from, progress_with}
 use Rattle.reader.specs.Reader.{routines_of, sheet_of, read_of}
 use Rattle.reader.proofs.Laws.{picked}
 
 pub record Few (r : Report) : Type 0 where
   pub few : r.bounds.count ≤ 64
 
-few_parsed : (x : Parsed) (g : ℕ → ℕ → Report) (f : ℕ → ℕ → ℕ → ℕ → ℕ → Cursor → Report) → ((k p : ℕ) → Few (g k p)) →
-    ((v o e m k : ℕ) (next : Cursor) → Few (f v o e m k next)) → Few (on_parsed x g f)
+few_parsed : (x : Parsed) (g : ℕ → ℕ → Report) (f : ℕ → Option ℕ → ℕ → Option ℕ → ℕ → Cursor → Report) → ((k p : ℕ) → Few (g k p)) →
+    ((v : ℕ) (o : Option ℕ) (e : ℕ) (m : Option ℕ) (k : ℕ) (next : Cursor) → Few (f v o e m k next)) → Few (on_parsed x g f)
 few_parsed (Done p) g f h k = k p.value p.over p.added p.mark p.constructs p.next
 few_parsed (Refused number place) g f h k = h number place
 
-few_head : (x : Head) (g : ℕ → ℕ → Report) (f : Read → Report) → ((k p : ℕ) → Few (g k p)) → ((r : Read) → x ≡ head.Good r → Few (f r)) →
-    Few (on_head x g f)
-few_head (head.Refused number place) g f h k = h number place
-few_head (head.Good r) g f h k = k r refl
+few_sheet : (x : Reading SheetRecord) (g : ℕ → ℕ → Report) (f : SheetRecord → Cursor → Report) → ((k p : ℕ) → Few (g k p)) →
+    ((r : SheetRecord) (next : ℕ) → x ≡ found r next → Few (f r (record { at = next }))) → Few (on_reading x g f)
+few_sheet (refused number place) g f h k = h number place
+few_sheet (found r next) g f h k = k r next refl
 
 few_routines : (n : ℕ) (s : List ℕ) (number : ℕ) (b : Bounds) (progress : Progress) → b.count + n ≤ 64 → Few (routines_of n s number b progress)
 unfolding routines_of bounds_with
@@ -48,6 +47,6 @@ unfolding read_of sheet_of
 few_read s number =
     let z = none_few in
     picked Few (ltb 60000 (length s)) (record { few = omega arith }) (
-    few_head (record_of s sheet (record { at = 0 })) _ _ (λ k p. record { few = omega arith }) (λ r e.
+    few_sheet (read_as as_sheet (judged s sheet 0)) _ _ (λ k p. record { few = omega arith }) (λ r next e.
     let h = (sheet_fine s e).few in
-    few_routines r.second s number no_bounds (progress_from (length s) r.next) (omega arith)))
+    few_routines r.routines s number no_bounds (progress_from (length s) (record { at = next })) (omega arith)))

@@ -3,17 +3,17 @@ use Prim.Native.Nat.{ℕ, zero, suc, ◌+◌, ◌-◌, ◌*◌, ◌≤◌, ◌<�
 use mathlib.Core.Path.{◌≡◌, refl, sym, ap, ◌∙◌}
 use mathlib.Core.Bool.{Bool, true, false}
 use mathlib.Core.List.{List, [], ◌∷◌, ◌++◌}
-use lib.Dec.{eqb}
 use lib.ListN.{length, take, drop, length-append, length-take, length-drop, drop_of_length-le}
 use lib.Seq.{take-take, take-append-le, drop-append-le}
 use native.Mathlib.Omega.{arith}
 use Rattle.meaning.specs.Format.{pick}
 use Rattle.records.specs.declared.Cursor.{Cursor}
-use Rattle.reader.specs.declared.Parsed.TheVariants as parsed
-use Rattle.reader.specs.Tallies.{Aside, value_cap, is_branch, Share, Done, Refused, Tally, no_tally, with_of, kept_of, aside_of, Fits, Counts, Held, Told, Valued}
-use Rattle.reader.specs.Reader.{Owner, ChildReader, child_of, list_of, list_from, Within}
-use Rattle.reader.proofs.Laws.{Kept, held_more}
-use Rattle.reader.proofs.Tells.{over_kept, over_three}
+use Rattle.std.specs.Prelude.{Option, Some, None, Ok}
+use Rattle.std.specs.Option.{option_or}
+use Rattle.reader.specs.Tallies.{Aside, value_cap, is_branch, Share, Done, Refused, Tally, no_tally, with_of, kept_with, kept_of, aside_of, Counts, Held, Told, Valued}
+use Rattle.reader.specs.Reader.{Owner, ChildReader, child_of, list_of, list_from, Lent, Within}
+use Rattle.reader.proofs.Laws.{or_none, or_assoc, Kept, held_more}
+use Rattle.reader.proofs.Tells.{returned_is}
 use Rattle.reader.proofs.Lists.{list_refused, list_done}
 
 -- the marked branches that a list keeps: from its base up to those held
@@ -39,31 +39,32 @@ length_kept : (base held : ℕ) (marks : List ℕ) → held ≤ length marks →
 length_kept base held marks h = let n = length-drop base (take held marks) in let m = length-take held marks in omega arith
 
 -- what holds of a list as it is, and with one more at its end, holds of what is kept
-keeps : (kind i v m : ℕ) (P : (List ℕ → List ℕ) → Type 0) → P (λ xs. xs) → P (λ xs. xs ++ ((v * 1048576 + (m - 1)) ∷ [])) → P (kept_of kind i v m)
+keeps : (kind i v : ℕ) (m : Option ℕ) (P : (List ℕ → List ℕ) → Type 0) → P (λ xs. xs) → ((x : ℕ) → P (λ xs. xs ++ (x ∷ []))) → P (kept_of kind i v m)
 unfolding kept_of
-keeps kind i v m P none one = go (eqb m 0) (is_branch kind i)
+keeps kind i v m P none one = go (is_branch kind i) m
   where
-    go : (plain branch : Bool) → P (λ xs. pick plain xs (pick branch (xs ++ ((v * 1048576 + (m - 1)) ∷ [])) xs))
-    go true branch = none
-    go false true = one
-    go false false = none
+    go : (branch : Bool) (m : Option ℕ) → P (λ xs. pick branch (kept_with v m xs) xs)
+    go false m = none
+    go true None = none
+    go true (Some limit) = one (v * 1048576 + limit)
 
-module _ (kind i v m : ℕ) (xs : List ℕ) where
+module _ (kind i v : ℕ) (m : Option ℕ) (xs : List ℕ) where
   kept_more : (base : ℕ) → base ≤ length xs → drop base (kept_of kind i v m xs) ≡ kept_of kind i v m (drop base xs)
-  kept_more base h = keeps kind i v m (λ f. drop base (f xs) ≡ f (drop base xs)) refl (drop-append-le base xs _ h)
+  kept_more base h = keeps kind i v m (λ f. drop base (f xs) ≡ f (drop base xs)) refl (λ x. drop-append-le base xs _ h)
 
   kept_below : (base : ℕ) → base ≤ length xs → take base (kept_of kind i v m xs) ≡ take base xs
-  kept_below base h = keeps kind i v m (λ f. take base (f xs) ≡ take base xs) refl (take-append-le base xs _ h)
+  kept_below base h = keeps kind i v m (λ f. take base (f xs) ≡ take base xs) refl (λ x. take-append-le base xs _ h)
 
   kept_longer : (length xs ≤ length (kept_of kind i v m xs)) × (length (kept_of kind i v m xs) ≤ length xs + 1)
   kept_longer =
-      let n = length-append xs ((v * 1048576 + (m - 1)) ∷ []) in
-      keeps kind i v m (λ f. (length xs ≤ length (f xs)) × (length (f xs) ≤ length xs + 1)) (omega arith, omega arith) (omega arith, omega arith)
+      keeps kind i v m (λ f. (length xs ≤ length (f xs)) × (length (f xs) ≤ length xs + 1)) (omega arith, omega arith) (λ x.
+      let n = length-append xs (x ∷ []) in
+      (omega arith, omega arith))
 
 module _ (read : ChildReader) (o : Owner) (s lent : List ℕ) (n base : ℕ) (from : Cursor) (first : Aside) where
   -- So far the children from `from` on come to the tally t and the marks kept, the next stands at c, and what was lent below the base is as it was.
   -- What is told aside is what was told first and what the tally tells; where a branch is read, the mark is kept apart.
-  pub record Going (marks : List ℕ) (t : Tally) (held : ℕ) (c : Cursor) (i : ℕ) (aside : Aside) (marked : ℕ) : Type 0 where
+  pub record Going (marks : List ℕ) (t : Tally) (held : ℕ) (c : Cursor) (i : ℕ) (aside : Aside) (marked : Option ℕ) : Type 0 where
     pub same : list_of read o (n - i) i c t (kept base held marks) ≡ list_from read o n from
     pub tally : Held o.kind i t
     pub count : i ≤ n
@@ -74,35 +75,36 @@ module _ (read : ChildReader) (o : Owner) (s lent : List ℕ) (n base : ℕ) (fr
     pub inside : c.at ≤ length s
     pub below : take base marks ≡ take base lent
     pub long : length marks ≡ length lent
-    pub over : aside.over ≡ pick (eqb first.over 0) t.over first.over
+    pub over : aside.over ≡ option_or first.over t.over
     pub added : aside.added ≡ min value_cap (first.added + t.added)
-    pub mark : marked ≡ pick (eqb t.mark 0) first.mark t.mark
+    pub mark : marked ≡ option_or t.mark first.mark
     pub constructs : aside.constructs + i ≡ first.constructs + t.constructs
 
-  pub going_first : 8 * base ≤ o.start → Within s o.start from.at → Fits first o.start → Going lent no_tally base from 0 first first.mark
-  going_first h w fits =
+  pub going_first : 8 * base ≤ o.start → Within s o.start from.at → first.added ≤ value_cap → 8 * first.constructs ≤ o.start →
+      Going lent no_tally base from 0 first first.mark
+  going_first h w small valued =
       let m = length-take base lent in
       let e : kept base base lent ≡ [] = drop_of_length-le (take base lent) {i = base} (omega arith) in
       let z : n - 0 ≡ n = omega arith in
       record {
         same = rw (e, z);
-        tally = record { sum = omega arith; top = omega arith; added = omega arith; mark = omega arith };
+        tally = record { sum = omega arith; top = omega arith; added = omega arith; mark = tt };
         count = omega arith;
         above = omega arith;
         room = omega (arith, w.past);
         past = omega (arith, w.past);
-        before = fits.valued;
+        before = valued;
         inside = w.inside;
         below = refl;
         long = refl;
-        over = over_kept first.over;
-        added = omega (arith, fits.added);
+        over = sym (or_none first.over);
+        added = omega arith;
         mark = refl;
         constructs = refl;
       }
 
   -- Child i was read, where so much was lent aside, and told p: its value and the cursor past it were returned, and the marks came to those after it.
-  pub record Child (marks : List ℕ) (t : Tally) (held : ℕ) (c : Cursor) (i : ℕ) (aside : Aside) (marked : ℕ) (lends : Aside) (after : List ℕ) (p : Share) (v : ℕ)
+  pub record Child (marks : List ℕ) (t : Tally) (held : ℕ) (c : Cursor) (i : ℕ) (aside : Aside) (marked : Option ℕ) (lends : Aside) (after : List ℕ) (p : Share) (v : ℕ)
       (next : Cursor) (b : Aside) : Type 0 where
     pub going : Going marks t held c i aside marked
     pub spare : length s ≤ 8 * length lent
@@ -120,22 +122,19 @@ module _ (read : ChildReader) (o : Owner) (s lent : List ℕ) (n base : ℕ) (fr
     pub long : length after ≡ length marks
 
 module _ {read : ChildReader} {o : Owner} {s lent : List ℕ} {n base : ℕ} {from : Cursor} {first : Aside} {marks : List ℕ} {t : Tally} {held : ℕ} {c : Cursor}
-    {i : ℕ} {aside : Aside} {marked : ℕ} where
+    {i : ℕ} {aside : Aside} {marked : Option ℕ} where
   -- what was lent is as it was below the base, and as long
   pub still_below : (after : List ℕ) → Going read o s lent n base from first marks t held c i aside marked → take held after ≡ take held marks →
       take base after ≡ take base lent
   still_below after g still = below_still after marks g.above still ∙ g.below
 
-  pub still_long : (after : List ℕ) → Going read o s lent n base from first marks t held c i aside marked → length after ≡ length marks →
-      length after ≡ length lent
-  still_long after g long = long ∙ g.long
-
-  -- what is told aside fits, and the constructs that were valued are few
-  pub going_fits : Going read o s lent n base from first marks t held c i aside marked → Fits aside c.at
-  going_fits g = record { added = omega (arith, g.added); valued = omega (arith, g.constructs, g.past, g.before) }
-
-  pub few_valued : Going read o s lent n base from first marks t held c i aside marked → length s ≤ 60000 → aside.constructs + i ≤ 7500
-  few_valued g short = omega (arith, g.constructs, g.past, g.before, g.inside)
+  -- what is lent to a child
+  pub child_lent : Going read o s lent n base from first marks t held c i aside marked → length s ≤ 8 * length lent → Lent s marks aside.constructs held c.at
+  child_lent g spare = record {
+    room = omega (arith, g.long);
+    kept = g.room;
+    valued = omega (arith, g.constructs, g.past, g.before);
+  }
 
   -- there is room for the marks that are held
   pub held_room : Going read o s lent n base from first marks t held c i aside marked → length s ≤ 8 * length lent → held ≤ length marks
@@ -149,12 +148,12 @@ module _ {read : ChildReader} {o : Owner} {s lent : List ℕ} {n base : ℕ} {fr
       sym g.same ∙ list_refused read o n i c t (kept base held marks) more (rw m e)
 
   pub child_of_lem : {lends b : Aside} (after : List ℕ) {v : ℕ} {next : Cursor} →
-      (w : Valued (length s) c.at lends (child_of read o i (held - base) c) (parsed.Value v next) b) →
+      (w : Valued (length s) c.at lends (child_of read o i (held - base) c) (Ok (v, next)) b) →
       Going read o s lent n base from first marks t held c i aside marked → length s ≤ 8 * length lent → Counts o.kind o.first → i < n →
       lends.over ≡ aside.over → lends.added ≡ aside.added → lends.constructs ≡ aside.constructs → take held after ≡ take held marks → length after ≡ length marks →
       Child read o s lent n base from first marks t held c i aside marked lends after w.told v next b
   child_of_lem after w g spare counts more over added valued still long =
-      let e = w.returned in
+      let (value, past) = returned_is w in
       record {
         going = g;
         spare = spare;
@@ -164,8 +163,8 @@ module _ {read : ChildReader} {o : Owner} {s lent : List ℕ} {n base : ℕ} {fr
         lent_added = added;
         lent_constructs = valued;
         is = w.is;
-        value = cc;
-        past = cc;
+        value = value;
+        past = past;
         after_it = w.aside;
         fine = w.fine;
         still = still;
@@ -183,8 +182,8 @@ module _ {read : ChildReader} {o : Owner} {s lent : List ℕ} {n base : ℕ} {fr
     tallied = with_of o.kind o.first i t v p.over p.added p.mark p.constructs
 
     -- one child more; where it is a marked branch, one mark more is kept
-    pub child_more : {holds : ℕ} {last : List ℕ} {marked' : ℕ} → Kept o.kind i v p.mark held after holds last →
-        marked' ≡ pick (eqb tallied.mark 0) first.mark tallied.mark → Going read o s lent n base from first last tallied holds next (i + 1) b marked'
+    pub child_more : {holds : ℕ} {last : List ℕ} {marked' : Option ℕ} → Kept o.kind i v p.mark held after holds last →
+        marked' ≡ option_or tallied.mark first.mark → Going read o s lent n base from first last tallied holds next (i + 1) b marked'
     unfolding with_of
     child_more {holds} {last} (many, (kept-as, longer)) marks-as =
         let g = k.going in
@@ -200,7 +199,7 @@ module _ {read : ChildReader} {o : Owner} {s lent : List ℕ} {n base : ℕ} {fr
         let step' = rw (← k.value, ← k.past) at step in
         record {
           same = rw (is, kept_more o.kind i v p.mark xs base (omega arith), ← step') g.same;
-          tally = held_more p.over p.added p.constructs k.counts g.tally (rw k.value fine.value) fine.mark;
+          tally = held_more p.mark p.over p.added p.constructs k.counts g.tally (rw k.value fine.value) fine.mark;
           count = omega (arith, k.more);
           above = omega (arith, g.above);
           room = omega (arith, g.room, fine.past);
@@ -211,7 +210,7 @@ module _ {read : ChildReader} {o : Owner} {s lent : List ℕ} {n base : ℕ} {fr
               sym (take-take base holds last (omega (arith, g.above))) ∙ ap (take base) is
               ∙ kept_below o.kind i v p.mark xs base (omega (arith, g.above)) ∙ take-take base held marks g.above ∙ g.below;
           long = longer ∙ k.long ∙ g.long;
-          over = ap (λ z. z.over) k.after_it ∙ rw (k.lent_over, g.over) (over_three first.over t.over p.over);
+          over = ap (λ z. z.over) k.after_it ∙ rw (k.lent_over, g.over) (or_assoc first.over t.over p.over);
           added = ap (λ z. z.added) k.after_it ∙ rw (k.lent_added, g.added) (omega arith);
           mark = marks-as;
           constructs = ap (λ z. z.constructs + (i + 1)) k.after_it ∙ omega (arith, k.lent_constructs, g.constructs);

@@ -1,16 +1,18 @@
 -- Laws of what the private functions on values come to: how far each sum can grow, one child more, and the marked branches kept.
-use Prim.Native.Nat.{ℕ, ◌+◌, ◌-◌, ◌*◌, ◌/◌, ◌%◌, ◌≤◌, ◌<◌, min}
+use Prim.Native.Nat.{ℕ, ◌+◌, ◌*◌, ◌/◌, ◌%◌, ◌≤◌, ◌<◌, min}
 use mathlib.Core.Path.{◌≡◌, refl, sym, ◌∙◌}
 use mathlib.Core.Bool.{Bool, true, false, false≢true}
-use mathlib.Core.List.{List, [], ◌∷◌}
+use mathlib.Core.List.{List}
 use lib.Dec.{eqb}
-use lib.ListN.{length, take, drop, get_or, set, drop_of_length-le, length-set, length-append, length-take}
-use lib.Seq.{take-suc-set, drop-cons}
+use lib.ListN.{length, take, drop, get_or, drop_of_length-le, length-take}
+use lib.Seq.{drop-cons}
 use native.Mathlib.Omega.{arith}
 use native.Mathlib.Nat.{mul-le-mul}
 use native.Mathlib.Numerals.{add-one}
 use Rattle.meaning.specs.Format.{pick}
-use Rattle.reader.specs.Tallies.{value_cap, charge_of, charges_of, is_loop, counted, is_branch, Tally, with_of, kept_of, heaviest, heaviest_sum, Counts, Held}
+use Rattle.std.specs.Prelude.{Option, Some, None}
+use Rattle.std.specs.Option.{option_or}
+use Rattle.reader.specs.Tallies.{value_cap, charge_of, charges_of, is_loop, counted, is_branch, Tally, topped_of, with_of, kept_of, heaviest, heaviest_sum, Counts, Limited, Held}
 
 -- what holds of both holds of either
 pub picked : {A : Type 0} {a b : A} (P : A → Type 0) (t : Bool) → P a → P b → P (pick t a b)
@@ -23,19 +25,9 @@ pick_most {most = most} = picked (λ x. x ≤ most)
 pub pick_same : {A : Type 0} (t : Bool) (a : A) → pick t a a ≡ a
 pick_same t a = picked (λ x. x ≡ a) t refl refl
 
--- products stay in 64 bits
-pub charge_small : {passes excess : ℕ} → passes ≤ 1000000 → excess ≤ 17592186044415 → passes * excess ≤ 17592186044415000000
-charge_small p q = mul-le-mul p q
-
-pub product_small : {product count : ℕ} → product ≤ 1000000 → count ≤ 1000000 → product * count ≤ 1000000000000
-product_small p q = mul-le-mul p q
-
-pub rounds_small : {v count : ℕ} → v ≤ 1099511627775 → count ≤ 1000000 → v * count ≤ 1099511627775000000
+-- a product stays in 64 bits
+rounds_small : {v count : ℕ} → v ≤ 1099511627775 → count ≤ 1000000 → v * count ≤ 1099511627775000000
 rounds_small p q = mul-le-mul p q
-
--- a branch that is worth no more than the plain ones has no excess
-pub charge_none : (product limit value plain : ℕ) → value ≤ plain → 0 ≡ charge_of product limit value plain
-charge_none product limit value plain h = let z : value - plain ≡ 0 = omega arith in rw z (omega arith)
 
 -- the marked branches from one on
 pub charges_more : (product plain sum i : ℕ) (marks : List ℕ) → i < length marks →
@@ -63,9 +55,6 @@ child_small kind count i v h small = go (eqb kind 5) (eqb kind 6) (eqb i 1) (eqb
     go false true one false k = let x = rounds_small small (k refl) in omega arith
     go false false one two k = omega arith
 
-pub some_heavier : (kind : ℕ) → 1099511627775 ≤ heaviest kind
-some_heavier kind = picked (λ x. 1099511627775 ≤ x) (is_loop kind) (omega arith) (omega arith)
-
 -- n children add no more than the heaviest n
 pub fewer_small : (i n kind : ℕ) → i ≤ n → n * heaviest kind ≤ heaviest_sum → i * heaviest kind ≤ heaviest_sum
 fewer_small i n kind h k = let m : i * heaviest kind ≤ n * heaviest kind = mul-le-mul h (omega arith) in omega arith
@@ -80,45 +69,45 @@ next_heavier i h = omega arith
 pub sum_fits : (kind i : ℕ) {t : Tally} → Held kind i t → (i + 1) * heaviest kind ≤ heaviest_sum → t.sum + heaviest kind ≤ heaviest_sum
 sum_fits kind i h k = omega (arith, next_heavier i (heaviest kind), h.sum)
 
+-- of optional things, the first that is there; what holds of all of them holds of it
+pub or_none : {A : Type 0} (a : Option A) → option_or a None ≡ a
+or_none None = refl
+or_none (Some x) = refl
+
+pub or_assoc : {A : Type 0} (a b c : Option A) → option_or (option_or a b) c ≡ option_or a (option_or b c)
+or_assoc None b c = refl
+or_assoc (Some x) b c = refl
+
+limited_or : (a b : Option ℕ) → Limited a → Limited b → Limited (option_or a b)
+limited_or None b h k = k
+limited_or (Some limit) b h k = h
+
+topped_most : {top v most : ℕ} (mark : Option ℕ) → top ≤ most → v ≤ most → topped_of top v mark ≤ most
+topped_most None h k = omega arith
+topped_most (Some limit) h k = h
+
 -- what is held after one child more
-pub held_more : {kind count i : ℕ} {t : Tally} {v m : ℕ} (o e k : ℕ) → Counts kind count → Held kind i t → v ≤ 1099511627775 → m ≤ 1000001 →
+pub held_more : {kind count i : ℕ} {t : Tally} {v : ℕ} (m o : Option ℕ) (e k : ℕ) → Counts kind count → Held kind i t → v ≤ 1099511627775 → Limited m →
     Held kind (i + 1) (with_of kind count i t v o e m k)
 unfolding with_of
-held_more {kind} {count} {i} {t} {v} {m} o e k counts h small few =
+held_more {kind} {count} {i} {t} {v} m o e k counts h small few =
     let n = next_heavier i (heaviest kind) in
     let c = child_small kind count i v counts small in
     let none : t.sum ≤ (i + 1) * heaviest kind = omega (arith, h.sum) in
     let one : t.sum + counted kind count i v ≤ (i + 1) * heaviest kind = omega (arith, h.sum) in
     record {
       sum = picked (λ x. x ≤ (i + 1) * heaviest kind) (is_branch kind i) none one;
-      top = pick_most (is_branch kind i) (pick_most (eqb m 0) (omega (arith, h.top)) h.top) h.top;
+      top = pick_most (is_branch kind i) (topped_most m h.top small) h.top;
       added = omega arith;
-      mark = pick_most (eqb m 0) h.mark (pick_most (is_branch kind i) h.mark few);
+      mark = picked Limited (is_branch kind i) h.mark (limited_or m t.mark few h.mark);
     }
 
 -- The list `marks` up to `held` after a child: as it was, or with one marked branch more.
-module _ (kind i value mark held : ℕ) (marks : List ℕ) where
+module _ (kind i value : ℕ) (mark : Option ℕ) (held : ℕ) (marks : List ℕ) where
   abbrev pub Kept : ℕ → List ℕ → Type 0
   Kept r after =
       (r ≡ length (kept_of kind i value mark (take held marks))) × ((take r after ≡ kept_of kind i value mark (take held marks)) × (length after ≡ length marks))
 
-  pub kept_none : eqb mark 0 ≡ true → held ≤ length marks → Kept held marks
-  unfolding kept_of
-  kept_none e h = rw e (let n = length-take held marks in (omega arith, (refl, refl)))
-
   pub kept_other : is_branch kind i ≡ false → held ≤ length marks → Kept held marks
   unfolding kept_of
-  kept_other b h = rw (b, pick_same) (let n = length-take held marks in (omega arith, (refl, refl)))
-
-  pub kept_one : eqb mark 0 ≡ false → is_branch kind i ≡ true → held < length marks → Kept (held + 1) (set marks held (value * 1048576 + (mark - 1)))
-  unfolding kept_of
-  kept_one e b h =
-      let x = value * 1048576 + (mark - 1) in
-      let n = length-take held marks in
-      let m = length-append (take held marks) (x ∷ []) in
-      rw (e, b) (omega arith, (rw (add-one held) (take-suc-set marks held x h), length-set marks held x))
-
--- what is no branch is not kept, whatever its mark
-pub kept_alike : (kind i value mark other : ℕ) (marks : List ℕ) → is_branch kind i ≡ false → kept_of kind i value mark marks ≡ kept_of kind i value other marks
-unfolding kept_of
-kept_alike kind i value mark other marks b = rw b (pick_same (eqb mark 0) marks ∙ sym (pick_same (eqb other 0) marks))
+  kept_other b h = rw b (let n = length-take held marks in (omega arith, (refl, refl)))

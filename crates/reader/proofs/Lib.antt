@@ -10,4 +10,5 @@ pub mod Timed
 pub mod Reading
 pub mod Under
 pub mod Few
+pub mod Answers
 pub mod Determined

@@ -29,6 +29,6 @@ module _ (read : ChildReader) (o : Owner) (n i : ℕ) (c : Cursor) (t : Tally) (
 
   pub list_end : n ≤ i →
       list_of read o (n - i) i c t marks
-      ≡ close_of o.kind o.first o.second t (charges_of o.product t.top 0 marks) o.start c
+      ≡ close_of o.kind o.first o.scope t (charges_of o.product t.top 0 marks) o.start c
   unfolding list_of
   list_end h = let e : n - i ≡ 0 = omega arith in rw e

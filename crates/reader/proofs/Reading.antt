@@ -1,25 +1,50 @@
--- What a record learns of a child: read at once, or by `construct` after it was not; and a refusal of a child, which is one of the list.
-use Rattle.std.proofs.Common.{ℕ, ◌≡◌, refl, ◌∙◌, ◌-◌, ◌*◌, ◌<◌, ◌≤◌, List, length}
+-- What a record learns of a child: how it is read; its value; or its refusal, which is one of the list.
+use Rattle.std.proofs.Common.{ℕ, ◌≡◌, sym, ap, ◌∙◌, ◌-◌, ◌*◌, ◌<◌, ◌≤◌, List, length, arith}
+use Rattle.std.specs.Prelude.{Bool, Option, None, Ok, Err, IsErrAnd}
+use Rattle.meaning.specs.Judgement.{Reading, found}
+use Rattle.records.specs.declared.Found.{Found}
 use Rattle.records.specs.declared.Cursor.{Cursor}
-use Rattle.reader.specs.declared.Parsed.TheVariants as parsed
-use Rattle.reader.specs.declared.Quick.TheVariants as quick
-use Rattle.reader.specs.Tallies.{Aside, Parsed, Tally, Valued, Tells, a_refusal, Quickly}
-use Rattle.reader.specs.Reader.{Owner, ChildReader, child_of, list_from}
-use Rattle.reader.proofs.Tells.{told_as, told_from, tells_value, tells_refusal, quickly_value, quickly_other}
+use Rattle.records.specs.declared.standings.Standing.{Standing}
+use Rattle.records.specs.declared.faults.Refusal.{Refusal}
+use Rattle.reader.specs.Tallies.{Aside, Parsed, Tally, Valued, Tells, a_refusal, Quickly, at_once, not_read}
+use Rattle.reader.specs.Reader.{Owner, owner_of, ChildReader, child_of, list_from, construct_of}
+use Rattle.reader.proofs.Tells.{Returned, told_as, tells_value, tells_refusal}
 use Rattle.reader.proofs.Going.{Going, child_refused}
 
-module _ {long at : ℕ} {a b : Aside} {x : ℕ → Parsed} {y : Parsed} {v : ℕ} {next : Cursor} where
-  pub read_once : Quickly long at a x (quick.Value v next) b → (product : ℕ) → y ≡ x product → Valued long at a y (parsed.Value v next) b
-  read_once q product is = told_as is (quickly_value q refl product)
+-- what was found of a record, by its kind
+pub found_as : {f g : Found} {next : ℕ} {j : Reading Found} → found f next ≡ j → f ≡ g → j ≡ found g next
+found_as {next = next} e is = sym e ∙ ap (λ x. found x next) is
 
-  pub read_next : {z : Parsed} {b' : Aside} → Quickly long at a x quick.Other b → y ≡ z → Tells long at b z (parsed.Value v next) b' →
-      Valued long at a y (parsed.Value v next) b'
-  read_next q is t = told_from (quickly_other q refl) (told_as is (tells_value t refl))
+-- what is not read at once is as it was
+pub unread : {long at : ℕ} {a b b' : Aside} {x : Parsed} {r : Returned} → Quickly long at a x None b → Tells long at b x r b' → Tells long at a x r b'
+unread (at_once e w) t = let z : ◌≡◌ {A = ℕ} 0 1 = cc in absurd (omega arith)
+unread (not_read e f) t = rw (← f) t
+
+-- a list is read as deep as it is said to be
+pub deeper_list : {left left' product product' : ℕ} (standing : Standing) (s bounds : List ℕ) (own kind first : ℕ) (scope : Bool) (start n : ℕ) (next : Cursor) →
+    left' ≡ left → product' ≡ product →
+    list_from (construct_of left s bounds own) (owner_of kind first scope start standing product) n next
+    ≡ list_from (construct_of left' s bounds own) (owner_of kind first scope start standing product') n next
+deeper_list standing s bounds own kind first scope start n next e g = rw (e, g)
+
+-- a child is reached as it is said to be
+pub reached : {left left' product product' : ℕ} {standing standing' : Standing} (s bounds : List ℕ) (own : ℕ) (c : Cursor) → left' ≡ left → standing' ≡ standing →
+    product' ≡ product → construct_of left s bounds own standing product c ≡ construct_of left' s bounds own standing' product' c
+reached s bounds own c e f g = rw (e, f, g)
+
+-- a refusal that is passed on is the same
+pub passed_on : {refusal : Refusal} (r : Returned) → IsErrAnd r (λ e. e ≡ refusal) → r ≡ Err refusal
+passed_on (Ok x) h = absurd h
+passed_on (Err e) h = ap Err h
+
+pub read_child : {long at : ℕ} {a b : Aside} {x y : Parsed} {r : Returned} {v : ℕ} {next : Cursor} → y ≡ x → Tells long at a x r b → r ≡ Ok (v, next) →
+    Valued long at a y (Ok (v, next)) b
+read_child is t e = told_as is (tells_value t e)
 
 module _ {read : ChildReader} {o : Owner} {s lent : List ℕ} {n base : ℕ} {from : Cursor} {first : Aside} {marks : List ℕ} {t : Tally} {held : ℕ} {c : Cursor}
-    {i : ℕ} {aside : Aside} {marked : ℕ} where
-  pub list_tells : {long at long' at' : ℕ} {a b a' b' : Aside} {x : Parsed} {number place : ℕ} →
+    {i : ℕ} {aside : Aside} {marked : Option ℕ} where
+  pub list_tells : {long at long' at' : ℕ} {a b a' b' : Aside} {x : Parsed} {r : Returned} {refusal : Refusal} →
       Going read o s lent n base from first marks t held c i aside marked → length s ≤ 8 * length lent → i < n →
-      child_of read o i (held - base) c ≡ x → Tells long at a x (parsed.Refused number place) b →
-      Tells long' at' a' (list_from read o n from) (parsed.Refused number place) b'
-  list_tells g spare more is t = a_refusal (child_refused g spare more (is ∙ tells_refusal t refl)) refl
+      child_of read o i (held - base) c ≡ x → Tells long at a x r b → r ≡ Err refusal → {q : Returned} → q ≡ Err refusal →
+      Tells long' at' a' (list_from read o n from) q b'
+  list_tells g spare more is t e f = a_refusal (child_refused g spare more (is ∙ tells_refusal t e)) f

@@ -8,30 +8,23 @@ use lib.ListN.{length, take, length-take, drop_of_length-le}
 use native.Mathlib.Omega.{arith}
 use Rattle.meaning.specs.Format.{pick}
 use Rattle.records.specs.declared.Cursor.{Cursor}
-use Rattle.reader.specs.declared.Parsed.TheVariants as parsed
+use Rattle.std.specs.Prelude.{Ok}
+use Rattle.std.specs.Option.{option_or}
 use Rattle.reader.specs.Tallies.{Aside, value_cap, counted, is_branch, Tally, charges_of, with_of, value_told, close_of, aside_told}
-use Rattle.reader.specs.Tallies.{aside_opened, paid_of, aside_paid, Fits, heaviest, heaviest_sum, Counts, Valued}
+use Rattle.reader.specs.Tallies.{aside_opened, paid_of, aside_paid, heaviest, heaviest_sum, Counts, Valued}
 use Rattle.reader.specs.Reader.{Owner, ChildReader, child_of, list_from, Within}
-use Rattle.reader.proofs.Laws.{pick_most, sum_fits, fewer_small, kept_other}
+use Rattle.reader.proofs.Laws.{pick_most, or_assoc, sum_fits, fewer_small, kept_other}
 use Rattle.reader.proofs.Tells.{closed}
 use Rattle.reader.proofs.Lists.{list_end}
 use Rattle.reader.proofs.Going.{kept, Going, going_first, child_of_lem, child_room, child_more}
 
--- the last mark of three that is one
-pub mark_three : (a t p : ℕ) → pick (eqb p 0) (pick (eqb t 0) a t) p ≡ pick (eqb (pick (eqb p 0) t p) 0) a (pick (eqb p 0) t p)
-mark_three a t p = go (eqb p 0) refl
-  where
-    go : (z : Bool) → eqb p 0 ≡ z → pick z (pick (eqb t 0) a t) p ≡ pick (eqb (pick z t p) 0) a (pick z t p)
-    go true e = refl
-    go false e = rw e
-
--- what a scope pays, after its sum
-pub paid_is : (sum : ℕ) {paid x : ℕ} → paid ≡ x → sum + paid ≡ sum + 0 + x
-paid_is sum e = rw e (omega arith)
+-- what a scope pays is at most just over the limit of a value
+pub paid_small : {added x : ℕ} (scope : Bool) → x ≡ pick scope added 0 → added ≤ value_cap → x ≤ value_cap
+paid_small scope e h = rw e (pick_most scope h (omega arith))
 
 -- what the children of a record are lent: a scope has nothing added yet
 abbrev pub lent_in : Owner → Aside → Aside
-lent_in o a = aside_opened a o.second
+lent_in o a = aside_opened a o.scope
 
 module _ (read : ChildReader) (o : Owner) (s lent : List ℕ) (n base : ℕ) (from : Cursor) (a : Aside) where
   pub record Summing (marks : List ℕ) (sum : ℕ) (c : Cursor) (i : ℕ) (aside : Aside) : Type 0 where
@@ -40,17 +33,18 @@ module _ (read : ChildReader) (o : Owner) (s lent : List ℕ) (n base : ℕ) (fr
     pub sums : sum ≡ t.sum
     pub flat : t.top ≡ 0
 
-  lent_fits : {at : ℕ} → Fits a at → Fits (lent_in o a) at
-  lent_fits fits = record { added = pick_most (eqb o.second 1) (omega arith) fits.added; valued = fits.valued }
-
-  pub summing_first : 8 * base ≤ o.start → Within s o.start from.at → Fits a o.start → Summing lent 0 from 0 (lent_in o a)
-  summing_first h w fits =
-      record { t = _; going = going_first read o s lent n base from (lent_in o a) h w (lent_fits fits); sums = refl; flat = refl }
+  pub summing_first : 8 * base ≤ o.start → Within s o.start from.at → a.added ≤ value_cap → 8 * a.constructs ≤ o.start → Summing lent 0 from 0 (lent_in o a)
+  summing_first h w small valued = record {
+    t = _;
+    going = going_first read o s lent n base from (lent_in o a) h w (pick_most o.scope (omega arith) small) valued;
+    sums = refl;
+    flat = refl;
+  }
 
   -- the same where what is lent is known by an equation
-  pub summing_from : {aside : Aside} → aside ≡ lent_in o a → 8 * base ≤ o.start → Within s o.start from.at → Fits a o.start →
+  pub summing_from : {aside : Aside} → aside ≡ lent_in o a → 8 * base ≤ o.start → Within s o.start from.at → a.added ≤ value_cap → 8 * a.constructs ≤ o.start →
       Summing lent 0 from 0 aside
-  summing_from e h w fits = rw e (summing_first h w fits)
+  summing_from e h w small valued = rw e (summing_first h w small valued)
 
 module _ {read : ChildReader} {o : Owner} {s lent : List ℕ} {n base : ℕ} {from : Cursor} {a : Aside} {marks : List ℕ} {sum : ℕ} {c : Cursor} {i : ℕ}
     {aside : Aside} (g : Summing read o s lent n base from a marks sum c i aside) where
@@ -65,7 +59,7 @@ module _ {read : ChildReader} {o : Owner} {s lent : List ℕ} {n base : ℕ} {fr
 
   -- one child more
   pub summing_more : {b : Aside} (after : List ℕ) {v : ℕ} {next : Cursor} →
-      Valued (length s) c.at aside (child_of read o i (base - base) c) (parsed.Value v next) b → {x : ℕ} → x ≡ counted o.kind o.first i v →
+      Valued (length s) c.at aside (child_of read o i (base - base) c) (Ok (v, next)) b → {x : ℕ} → x ≡ counted o.kind o.first i v →
       length s ≤ 8 * length lent → Counts o.kind o.first → i < n → is_branch o.kind i ≡ false → take base after ≡ take base marks →
       length after ≡ length marks → Summing read o s lent n base from a after (sum + x) next (i + 1) b
   unfolding with_of
@@ -73,35 +67,34 @@ module _ {read : ChildReader} {o : Owner} {s lent : List ℕ} {n base : ℕ} {fr
       let p = w.told in
       let k = child_of_lem after w g.going spare counts more refl refl refl still long in
       let room = child_room k in
-      let mark : b.mark ≡ pick (eqb p.mark 0) (pick (eqb g.t.mark 0) a.mark g.t.mark) p.mark =
-      ap (λ z. z.mark) w.aside ∙ ap (λ z. pick (eqb p.mark 0) z p.mark) g.going.mark in
+      let mark : b.mark ≡ option_or p.mark (option_or g.t.mark a.mark) = ap (λ z. z.mark) w.aside ∙ ap (option_or p.mark) g.going.mark in
       let keeps = kept_other o.kind i v p.mark base after plain (omega arith) in
       record {
         t = with_of o.kind o.first i g.t v p.over p.added p.mark p.constructs;
-        going = child_more k keeps (mark ∙ rw plain (mark_three a.mark g.t.mark p.mark));
+        going = child_more k keeps (mark ∙ rw plain (sym (or_assoc p.mark g.t.mark a.mark)));
         sums = rw (plain, g.sums, e);
         flat = rw plain g.flat;
       }
 
   -- the end: a scope pays what its markers add; any other record hands it on
-  pub summing_ends : {z : Aside} {value : ℕ} → n ≤ i → a.added ≤ value_cap →
-      z ≡ aside_paid aside o.second a.added →
-      value ≡ sum + pick (eqb o.kind 7) o.first 0 + paid_of aside o.second →
-      Valued (length s) o.start a (list_from read o n from) (parsed.Value (value_told value) c) (aside_told z value i o.start)
+  pub summing_ends : {z : Aside} {value : ℕ} → n ≡ i → a.added ≤ value_cap →
+      z ≡ aside_paid aside o.scope a.added →
+      value ≡ sum + pick (eqb o.kind 7) o.first 0 + paid_of aside o.scope →
+      Valued (length s) o.start a (list_from read o n from) (Ok (value_told value, c)) (aside_told z value n o.start)
   unfolding charges_of
   summing_ends {z} {value} all small same amount =
       let t = g.t in
       let h = g.going in
       let m = length-take base marks in
       let none : kept base base marks ≡ [] = drop_of_length-le (take base marks) {i = base} (omega arith) in
-      let end = rw none at (list_end read o n i c t (kept base base marks) all) in
-      let is : close_of o.kind o.first o.second t 0 o.start c ≡ list_from read o n from = sym end ∙ (rw none at h.same) in
-      let (added, paid) = by_scope (eqb o.second 1) h.added in
+      let end = rw none at (list_end read o n i c t (kept base base marks) (omega arith)) in
+      let is : close_of o.kind o.first o.scope t 0 o.start c ≡ list_from read o n from = sym end ∙ (rw none at h.same) in
+      let (added, paid) = by_scope o.scope h.added in
       rw (← is) (closed (record {
         over = ap (λ x. x.over) same ∙ h.over;
         added = ap (λ x. x.added) same ∙ added;
         mark = ap (λ x. x.mark) same ∙ h.mark;
-        constructs = ap (λ x. x.constructs + i) same ∙ h.constructs;
+        constructs = ap (λ x. x.constructs + n) same ∙ rw all h.constructs;
         amount = amount ∙ rw (g.sums, g.flat, paid) (omega arith);
         few = h.tally.mark;
         small = small;

@@ -1,27 +1,31 @@
 -- Laws of what `routine` and `routines` come to, and what holds whenever the loop of `routines` is at its test.
 use Prim.Native.Nat.{ℕ, zero, suc, ◌+◌, ◌-◌, ◌*◌, ◌≤◌, ◌<◌}
 use mathlib.Core.Path.{◌≡◌, refl, sym, ap, ◌∙◌}
+use mathlib.Core.Bool.{false}
 use mathlib.Core.List.{List, [], ◌∷◌}
 use lib.ListN.{length, get_or, set, replicate}
 use native.Mathlib.Omega.{arith}
+use Rattle.reader.proofs.Tells.{returned_is}
 use Rattle.records.specs.declared.Cursor.{Cursor}
-use Rattle.records.specs.declared.Read.{Read}
-use Rattle.records.specs.declared.Head.TheVariants as head
-use Rattle.meaning.specs.Judgement.{sheet, routine}
-use Rattle.reader.specs.declared.Parsed.TheVariants as parsed
+use Rattle.records.specs.declared.SheetRecord.{SheetRecord}
+use Rattle.records.specs.declared.RoutineRecord.{RoutineRecord}
+use Rattle.records.specs.declared.standings.Standing.TheVariants.{Outside}
+use Rattle.records.specs.Records.{read_as, as_sheet, as_routine}
+use Rattle.meaning.specs.Judgement.{sheet, routine, refused, found, judged}
+use Rattle.std.specs.Prelude.{Ok}
 use Rattle.reader.specs.declared.Bounds.{Bounds}
 use Rattle.reader.specs.declared.Progress.{Progress}
 use Rattle.reader.specs.Tallies.{Aside, Share, Done, Refused, no_aside, Told, Valued}
-use Rattle.reader.specs.Reader.{record_of, on_parsed, owner_of, list_from, construct_of, routine_of}
+use Rattle.reader.specs.Reader.{on_parsed, owner_of, list_from, construct_of, routine_of}
 use Rattle.reader.specs.Reader.{no_bounds, bounds_with, progress_from, progress_with, refusal, verdict_of, report_of, routines_of, sheet_of}
 
 module _ (s bounds : List ℕ) (own : ℕ) (c : Cursor) where
-  pub routine_refused : {number place : ℕ} → record_of s routine c ≡ head.Refused number place → routine_of s bounds own c ≡ Refused number place
+  pub routine_refused : {number place : ℕ} → read_as as_routine (judged s routine c.at) ≡ refused number place → routine_of s bounds own c ≡ Refused number place
   unfolding routine_of
   routine_refused e = rw e
 
-  pub routine_good : {r : Read} → record_of s routine c ≡ head.Good r →
-      routine_of s bounds own c ≡ list_from (construct_of 24 s bounds own) (owner_of 7 r.first 0 c.at 0 0) 1 r.next
+  pub routine_good : {r : RoutineRecord} {next : ℕ} → read_as as_routine (judged s routine c.at) ≡ found r next →
+      routine_of s bounds own c ≡ list_from (construct_of 24 s bounds own) (owner_of 7 r.organisation false c.at Outside 0) 1 (record { at = next })
   unfolding routine_of
   routine_good e = rw e
 
@@ -89,23 +93,21 @@ module _ {n : ℕ} {s lent : List ℕ} {number : ℕ} {none : Bounds} {first : P
       }
 
   pub turn_more : {u : Progress} {aside : Aside} {v : ℕ} {next : Cursor} (after : List ℕ) →
-      Valued (length s) progress.at.at (no_aside b.constructs) (routine_of s b.values (b.count + 1) progress.at) (parsed.Value v next) aside →
+      Valued (length s) progress.at.at (no_aside b.constructs) (routine_of s b.values (b.count + 1) progress.at) (Ok (v, next)) aside →
       length after ≡ length marks → u ≡ progress_with progress (b.count + 1) number v aside.over next →
       Under n s lent number none first after (record { values = set b.values b.count v; count = b.count + 1; constructs = aside.constructs }) u
   turn_more {u} {v = v} {next = next} after w long e =
-      let same = w.returned in
-      let value : v ≡ w.told.value = cc in
-      let past : next ≡ w.told.next = cc in
+      let (value, past) = returned_is w in
       told_more w.told after w.is w.fine value past (ap (λ z. z.constructs) w.aside) long (
       e ∙ ap (λ z. progress_with progress (b.count + 1) number v z next) (ap (λ z. z.over) w.aside))
 
 module _ (s : List ℕ) (number : ℕ) where
-  pub sheet_refused : {k p : ℕ} → record_of s sheet (record { at = 0 }) ≡ head.Refused k p →
+  pub sheet_refused : {k p : ℕ} → read_as as_sheet (judged s sheet 0) ≡ refused k p →
       sheet_of s number ≡ report_of (refusal (length s) k p) no_bounds
   unfolding sheet_of
   sheet_refused e = rw e
 
-  pub sheet_good : {r : Read} → record_of s sheet (record { at = 0 }) ≡ head.Good r →
-      sheet_of s number ≡ routines_of r.second s number no_bounds (progress_from (length s) r.next)
+  pub sheet_good : {r : SheetRecord} {next : ℕ} → read_as as_sheet (judged s sheet 0) ≡ found r next →
+      sheet_of s number ≡ routines_of r.routines s number no_bounds (progress_from (length s) (record { at = next }))
   unfolding sheet_of
   sheet_good e = rw e

@@ -2,7 +2,7 @@
 use Rattle.std.specs.Prelude.{ℕ, List, ◌++◌, take, drop}
 use Rattle.meaning.specs.Answer.{Part}
 use Rattle.reader.specs.declared.Bounds.{Bounds}
-use Rattle.reader.specs.declared.Report.{Report}
+use Rattle.reader.specs.Reader.{Report}
 
 -- the bounds in the first places, the later ones unchanged
 abbrev pub stored_of : Bounds → List ℕ → List ℕ

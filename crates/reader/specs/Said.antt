@@ -2,10 +2,11 @@
 use Rattle.std.specs.Prelude.{ℕ}
 use Rattle.meaning.specs.Answer.{Verdict, accepted}
 use Rattle.meaning.specs.Answer as meaning
+use Rattle.records.specs.Faults.{number_of}
 use Rattle.reader.specs.declared.Answer.{Answer}
 use Rattle.reader.specs.declared.Answer.TheVariants.{Accepted, Refused}
 
 -- "accepted with the last routine's bound, or refused with number and place"
 abbrev pub said_of : Answer → Verdict ℕ
 said_of (Accepted bound) = accepted bound
-said_of (Refused number place) = meaning.refused number place
+said_of (Refused fault place) = meaning.refused (number_of fault) place

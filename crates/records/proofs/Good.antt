@@ -12,10 +12,9 @@ use Rattle.meaning.specs.Judgement as judgement
 use Rattle.meaning.specs.Format.{Range, ranges_of, length_of, within, in_ranges, Record, of}
 use Rattle.meaning.specs.Judgement.{Reading, refused, found, refuse, two, fields_of, Owed, rows_of, bad_call, stray, no_plain, placed, judged}
 use Rattle.meaning.proofs.Laws.{pick_true, within_is}
-use Rattle.records.specs.declared.Read.{Read}
-use Rattle.records.specs.declared.Head.{Head}
-use Rattle.records.specs.declared.Head.TheVariants.{Good, Refused}
-use Rattle.records.specs.Records.{head_of}
+use Rattle.records.specs.declared.SheetRecord.{SheetRecord}
+use Rattle.records.specs.declared.RoutineRecord.{RoutineRecord}
+use Rattle.records.specs.Records.{read_as, as_sheet, as_routine}
 use Rattle.records.proofs.Table.{Each, ◌&◌, by_rows}
 
 -- what rules 7 and 8 leave of a construct
@@ -78,41 +77,42 @@ two_fields P p q k (a ∷ fields) h =
     let (low, high) = within_is p a here in
     one_field (λ z. P (a ∷ z)) q (λ b l m. k a b low high l m) fields later
 
-pub record RoutineFine (s : List ℕ) (at : ℕ) (r : Read) : Type 0 where
-  pub first : r.first ≤ 4294967295
-  pub second : r.second ≡ 0
-  pub past : at + 8 ≤ r.next.at
-  pub inside : r.next.at ≤ length s
+pub record RoutineFine (s : List ℕ) (at : ℕ) (r : RoutineRecord) (next : ℕ) : Type 0 where
+  pub first : r.organisation ≤ 4294967295
+  pub past : at + 8 ≤ next
+  pub inside : next ≤ length s
 
-pub record SheetFine (s : List ℕ) (r : Read) : Type 0 where
-  pub first : r.first ≡ 1
-  pub some : 1 ≤ r.second
-  pub few : r.second ≤ 64
-  pub past : r.next.at ≡ 12
+pub record SheetFine (s : List ℕ) (r : SheetRecord) (next : ℕ) : Type 0 where
+  pub first : r.edition ≡ 1
+  pub some : 1 ≤ r.routines
+  pub few : r.routines ≤ 64
+  pub past : next ≡ 12
   pub inside : 12 ≤ length s
 
-abbrev OfGood : (Read → Type 0) → Head → Type 0
-OfGood P (Refused number place) = Unit {0}
-OfGood P (Good r) = P r
+abbrev OfGood : {A : Type 0} → (A → ℕ → Type 0) → Reading A → Type 0
+OfGood P (refused number place) = Unit {0}
+OfGood P (found a next) = P a next
 
-pub routine_fine : (s : List ℕ) (at : ℕ) {r : Read} → head_of (judged s judgement.routine at) ≡ Good r → RoutineFine s at r
+pub routine_fine : (s : List ℕ) (at : ℕ) {r : RoutineRecord} {next : ℕ} → read_as as_routine (judged s judgement.routine at) ≡ found r next → RoutineFine s at r next
 routine_fine s at e =
     let l = length-drop at s in
-    subst (OfGood (RoutineFine s at)) e (by_judgement s judgement.routine at (λ j. OfGood (RoutineFine s at) (head_of j)) (λ _. tt) (
-    (λ fields inside room _. one_field (λ f. OfGood (RoutineFine s at) (head_of (found (of 1 f) (at + 8)))) _ (λ a _ high. record {
-      first = high;
-      second = refl;
-      past = omega arith;
-      inside = omega arith;
-    }) fields inside) & tt))
+    subst (OfGood (RoutineFine s at)) e (by_judgement s judgement.routine at Fine (λ _. tt) (
+    (λ fields inside room _. one_field (λ f. Fine (found (of 1 f) (at + 8))) _ (λ a _ high. record { first = high; past = omega arith; inside = omega arith }) fields inside)
+    & tt))
+  where
+    Fine : Reading Record → Type 0
+    Fine j = OfGood (RoutineFine s at) (read_as as_routine j)
 
-pub sheet_fine : (s : List ℕ) {r : Read} → head_of (judged s judgement.sheet 0) ≡ Good r → SheetFine s r
+pub sheet_fine : (s : List ℕ) {r : SheetRecord} {next : ℕ} → read_as as_sheet (judged s judgement.sheet 0) ≡ found r next → SheetFine s r next
 sheet_fine s e =
-    subst (OfGood (SheetFine s)) e (by_judgement s judgement.sheet 0 (λ j. OfGood (SheetFine s) (head_of j)) (λ _. tt) (
-    (λ fields inside room _. two_fields (λ f. OfGood (SheetFine s) (head_of (found (of 100 f) 12))) _ _ (λ a b low high some few. record {
+    subst (OfGood (SheetFine s)) e (by_judgement s judgement.sheet 0 Fine (λ _. tt) (
+    (λ fields inside room _. two_fields (λ f. Fine (found (of 100 f) 12)) _ _ (λ a b low high some few. record {
       first = omega arith;
       some = some;
       few = few;
       past = refl;
       inside = room;
     }) fields inside) & tt))
+  where
+    Fine : Reading Record → Type 0
+    Fine j = OfGood (SheetFine s) (read_as as_sheet j)

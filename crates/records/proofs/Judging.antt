@@ -10,125 +10,124 @@ use lib.Seq.{drop-drop}
 use lib.Dec.{ltb, eqb}
 use native.Mathlib.Omega.{arith}
 use borrow.Author.Tests.{eqb-true}
+use Rattle.std.specs.Prelude.{Option, Some, None, Result, Ok, Err}
 use Rattle.meaning.specs.Format.{pick, Range, sheet_rows, routine_rows, construct_rows, listed, ranges_of, length_of, in_ranges, Record, field, of}
 use Rattle.meaning.specs.Legal.{may_mark}
-use Rattle.meaning.specs.Judgement as judgement
-use Rattle.meaning.specs.Judgement.{Reading, refuse, two, four, fields_of, Owed, sheet, routine, rows_of, bad_call, placed, judged}
-use Rattle.records.specs.declared.Field.TheVariants as field
-use Rattle.records.specs.declared.Fields.TheVariants as fields
+use Rattle.meaning.specs.Judgement.{Reading, refused, found, refuse, two, four, fields_of, Owed, sheet, routine, rows_of, bad_call, placed, judged}
 use Rattle.records.specs.declared.Cursor.{Cursor}
-use Rattle.records.specs.declared.Head.{Head}
-use Rattle.records.specs.declared.Head.TheVariants.{Refused}
-use Rattle.records.specs.declared.Found.{Found}
-use Rattle.records.specs.declared.Found.TheVariants as found
-use Rattle.records.specs.declared.Form.{Form}
-use Rattle.records.specs.declared.Field.{Field}
 use Rattle.records.specs.declared.Fields.{Fields}
-use Rattle.records.specs.declared.Fit.{Fit}
-use Rattle.records.specs.declared.Fit.TheVariants.{Bad}
-use Rattle.records.specs.Records.{reach_of, last_of, construct_as, on_judged, as_read, head_of, by_kind, found_of}
-use Rattle.records.specs.Steps.{field_at, form_for, form_of, is_outside, marker_fault, is_bad_call, misplaced, with_fields, judge_of, on_fit, with_only, only_of}
+use Rattle.records.specs.declared.Form.{Form}
+use Rattle.records.specs.declared.Found.{Found}
+use Rattle.records.specs.declared.Place.{Place}
+use Rattle.records.specs.declared.faults.Fault.{Fault}
+use Rattle.records.specs.declared.faults.Fault.TheVariants.{BadKind, BadLength, BadCall, TooDeep}
+use Rattle.records.specs.declared.standings.Standing.{Standing}
+use Rattle.records.specs.declared.standings.Standing.TheVariants.{Outside, InScope, InAlternative, Branch, LastBranch, Leading, LeadingLast}
+use Rattle.records.specs.Faults.{number_of}
+use Rattle.records.specs.Records.{reach_of, last_of, owed_at, read_as, as_sheet, as_routine, by_kind, found_of}
+use Rattle.records.specs.Steps.{field_at, all_fields, form_for, form_of, is_outside, marker_fault, is_bad_call, misplaced}
+use Rattle.records.specs.Steps.{unless, with_fields, judge_of, rest_of, reading_from, anywhere, with_only, only_of}
 use Rattle.records.proofs.Laws.{itself, left_short, fields_one, fields_both, halves}
 use Rattle.records.proofs.Table.{◌&◌, by_rows, Few, in_table, one_outside, two_outside}
 
--- In the code's types, by what a refusal and a good record of a kind are there: `Head` for the sheet and the routines, `Found` for constructs.
-module _ {A : Type 0} (refuses : ℕ → ℕ → A) (good : ℕ → ℕ → ℕ → Cursor → A) where
-  abbrev as_judged : Reading Record → A
-  as_judged = on_judged refuses good
+-- In the code's types, by what a good record of a kind is there: of the sheet, a routine or a construct.
+module _ {A : Type 0} (good : ℕ → ℕ → ℕ → A) where
+  abbrev as_judged : Reading Record → Reading A
+  as_judged = read_as good
 
-  abbrev as_fit : ℕ → ℕ → Fit → A
-  as_fit = on_fit refuses good
+  -- the same of what `judge` returns; a refusal's place is the record's start
+  abbrev pub as_fit : ℕ → ℕ → Result (Fields × Cursor) Fault → Reading A
+  as_fit kind start j = reading_from start (rest_of good kind j)
 
-  judged_refuse : (t : Bool) (number place : ℕ) (rest : Reading Record) → as_judged (refuse t number place rest) ≡ pick t (refuses number place) (as_judged rest)
+  judged_refuse : (t : Bool) (number place : ℕ) (rest : Reading Record) → as_judged (refuse t number place rest) ≡ pick t (refused number place) (as_judged rest)
   unfolding refuse
   judged_refuse true number place rest = refl
   judged_refuse false number place rest = refl
 
-  fit_pick : (t : Bool) (kind start : ℕ) (a b : Fit) → as_fit kind start (pick t a b) ≡ pick t (as_fit kind start a) (as_fit kind start b)
+  fit_pick : (t : Bool) (kind start : ℕ) (a b : Result (Fields × Cursor) Fault) → as_fit kind start (pick t a b) ≡ pick t (as_fit kind start a) (as_fit kind start b)
   fit_pick true kind start a b = refl
   fit_pick false kind start a b = refl
 
-  -- a refusal by its number, where 0 is none; of faults in order, the first is the refusal
-  abbrev unless : ℕ → ℕ → A → A
-  unless fault start x = pick (eqb fault 0) x (refuses fault start)
+  -- a refusal where there is a fault; of faults in order, the first is the refusal
+  abbrev or_refused : Option Fault → ℕ → Reading A → Reading A
+  or_refused None start x = x
+  or_refused (Some fault) start x = refused (number_of fault) start
 
-  unless_pick : (t : Bool) (number rest start : ℕ) (x : A) → eqb number 0 ≡ false →
-      unless (pick t number rest) start x ≡ pick t (refuses number start) (unless rest start x)
-  unless_pick true number rest start x e = rw e
-  unless_pick false number rest start x e = refl
+  refused_pick : (t : Bool) (fault : Fault) (rest : Option Fault) (start : ℕ) (x : Reading A) →
+      or_refused (pick t (Some fault) rest) start x ≡ pick t (refused (number_of fault) start) (or_refused rest start x)
+  refused_pick true fault rest start x = refl
+  refused_pick false fault rest start x = refl
 
-  marker_law : (standing start : ℕ) (x : A) →
-      unless (marker_fault standing) start x ≡ pick (not (may_mark (reach_of standing))) (refuses 9 start) (pick (last_of standing) (refuses 10 start) x)
+  fit_unless : (fault : Option Fault) (kind start : ℕ) (all : Fields) (next : Cursor) →
+      as_fit kind start (unless fault all next) ≡ or_refused fault start (as_fit kind start (Ok (all, next)))
+  fit_unless None kind start all next = refl
+  fit_unless (Some fault) kind start all next = refl
+
+  marker_law : (standing : Standing) (start : ℕ) (x : Reading A) →
+      or_refused (marker_fault standing) start x ≡ pick (not (may_mark (reach_of standing))) (refused 9 start) (pick (last_of standing) (refused 10 start) x)
   unfolding marker_fault
-  marker_law standing start x = go (eqb standing 5) (eqb standing 6) refl refl
-    where
-      neither : (t : Bool) → pick t false false ≡ false
-      neither true = refl
-      neither false = refl
+  marker_law Outside start x = refl
+  marker_law InScope start x = refl
+  marker_law InAlternative start x = refl
+  marker_law Branch start x = refl
+  marker_law LastBranch start x = refl
+  marker_law Leading start x = refl
+  marker_law LeadingLast start x = refl
 
-      go : (t u : Bool) → eqb standing 5 ≡ t → eqb standing 6 ≡ u →
-          unless (pick t 0 (pick u 10 9)) start x ≡
-          pick (not (pick (not (eqb standing 0)) (pick t true u) false)) (refuses 9 start) (pick (pick (eqb standing 4) true u) (refuses 10 start) x)
-      go true true p q = let a = eqb-true standing 5 p in let b = eqb-true standing 6 q in absurd (omega arith)
-      go true false p q = rw (eqb-true standing 5 p)
-      go false true p q = rw (eqb-true standing 6 q)
-      go false false p q = rw (neither (not (eqb standing 0)))
-
-  -- Rules 7 to 10, by the numbers that `judge` is given: a construct's own; those for the sheet and a routine make no fault of their kinds.
-  abbrev Placed : Owed → ℕ → ℕ → ℕ → Type 0
-  Placed owed own left standing =
+  -- Rules 7 to 10, by the place that `judge` is given: a construct's own; that for the sheet and a routine makes no fault of their kinds.
+  abbrev Placed : Owed → Place → Type 0
+  Placed owed place =
       (x : Record) (at : ℕ) (rest : Reading Record) → listed x.kind (rows_of owed) ≡ true →
-      as_judged (placed owed x at rest) ≡ unless (misplaced x.kind (field x 0) own left standing) at (as_judged rest)
+      as_judged (placed owed x at rest) ≡ or_refused (misplaced x.kind (field x 0) place) at (as_judged rest)
 
-  placed_construct : (own left standing : ℕ) → Placed (construct_as own left standing) own left standing
+  placed_construct : (place : Place) → Placed (owed_at place) place
   unfolding misplaced is_bad_call
-  placed_construct own left standing x at rest h =
+  placed_construct place x at rest h =
       simp judged_refuse (sym (
-      unless_pick (bad_call own x) 7 _ at (as_judged rest) refl
-      ∙ ap (λ z. pick (bad_call own x) (refuses 7 at) z) (
-      unless_pick (eqb left 0) 8 _ at (as_judged rest) refl ∙ ap (λ z. pick (eqb left 0) (refuses 8 at) z) (go (eqb x.kind 9))
+      refused_pick (bad_call place.own x) BadCall _ at (as_judged rest)
+      ∙ ap (λ z. pick (bad_call place.own x) (refused 7 at) z) (
+      refused_pick (eqb place.left 0) TooDeep _ at (as_judged rest) ∙ ap (λ z. pick (eqb place.left 0) (refused 8 at) z) (go (eqb x.kind 9))
       )))
     where
-      go : (t : Bool) → unless (pick t (marker_fault standing) 0) at (as_judged rest) ≡
-          pick (pick t (not (may_mark (reach_of standing))) false) (refuses 9 at) (pick (pick t (last_of standing) false) (refuses 10 at) (as_judged rest))
-      go true = marker_law standing at (as_judged rest)
+      go : (t : Bool) → or_refused (pick t (marker_fault place.standing) None) at (as_judged rest) ≡
+          pick (pick t (not (may_mark (reach_of place.standing))) false) (refused 9 at) (pick (pick t (last_of place.standing) false) (refused 10 at) (as_judged rest))
+      go true = marker_law place.standing at (as_judged rest)
       go false = refl
 
   abbrev Faultless : ℕ → List Range → Type 0
-  Faultless kind ranges = (first at : ℕ) (x : A) → x ≡ unless (misplaced kind first 0 1 0) at x
+  Faultless kind ranges = (first at : ℕ) (x : Reading A) → x ≡ or_refused (misplaced kind first anywhere) at x
 
-  placed_sheet : Placed sheet 0 1 0
-  unfolding misplaced is_bad_call
+  placed_sheet : Placed sheet anywhere
+  unfolding misplaced
   placed_sheet x at rest h = by_rows Faultless sheet_rows ((λ first at x. refl) & tt) x.kind h (field x 0) at (as_judged rest)
 
-  placed_routine : Placed routine 0 1 0
-  unfolding misplaced is_bad_call
+  placed_routine : Placed routine anywhere
+  unfolding misplaced
   placed_routine x at rest h = by_rows Faultless routine_rows ((λ first at x. refl) & tt) x.kind h (field x 0) at (as_judged rest)
 
   -- from the length and the kind on, which are read as one field
-  abbrev with_head : List ℕ → Owed → ℕ → ℕ → ℕ → ℕ → Field → A
-  with_head s owed own left standing at field.Cut = refuses 3 at
-  with_head s owed own left standing at (field.Value head c) =
+  abbrev with_head : List ℕ → Owed → Place → ℕ → Option (ℕ × Cursor) → Reading A
+  with_head s owed place at None = refused 3 at
+  with_head s owed place at (Some (head, c)) =
       pick (listed (head / 65536) (rows_of owed))
-      (as_fit (head / 65536) at (judge_of s c.at (head / 65536) (head % 65536) (form_of (head / 65536)) own left standing))
-      (refuses 4 at)
+      (as_fit (head / 65536) at (judge_of s c.at (head / 65536) (head % 65536) (form_of (head / 65536)) place))
+      (refused 4 at)
 
-  module _ (owed : Owed) (own left standing : ℕ) (place : Placed owed own left standing) (s : List ℕ) (at : ℕ) where
+  module _ (owed : Owed) (place : Place) (placed_is : Placed owed place) (s : List ℕ) (at : ℕ) where
     -- what is left of the judgement once the fields are there
     rest_law : (past : ℕ) (ranges : List Range) (x : Record) → listed x.kind (rows_of owed) ≡ true →
         is_outside (form_for ranges) (field x 0) (field x 1) ≡ not (in_ranges ranges x.fields) →
-        as_judged (refuse (not (in_ranges ranges x.fields)) 6 at (placed owed x at (judgement.found x past))) ≡
-        as_fit x.kind at (with_fields x.kind (form_for ranges) own left standing (fields.All (field x 0) (field x 1) (record { at = past })))
+        as_judged (refuse (not (in_ranges ranges x.fields)) 6 at (placed owed x at (found x past))) ≡
+        as_fit x.kind at (with_fields x.kind (form_for ranges) place (all_fields (field x 0) (field x 1) (record { at = past })))
     rest_law past ranges x h e =
-        judged_refuse (not (in_ranges ranges x.fields)) 6 at _ ∙ rw (place x at (judgement.found x past) h, e) (sym (
+        judged_refuse (not (in_ranges ranges x.fields)) 6 at _ ∙ rw (placed_is x at (found x past) h, e) (sym (
         fit_pick (not (in_ranges ranges x.fields)) x.kind at _ _
-        ∙ ap (λ z. pick (not (in_ranges ranges x.fields)) (refuses 6 at) z) (
-        fit_pick (eqb (misplaced x.kind (field x 0) own left standing) 0) x.kind at _ _)))
+        ∙ ap (λ z. pick (not (in_ranges ranges x.fields)) (refused 6 at) z) (fit_unless (misplaced x.kind (field x 0) place) x.kind at _ _)))
 
     -- the length is tested, and then whether the fields are there
-    sized_law : (kind : ℕ) (f : Form) (t cut : Bool) (rest : Reading Record) (all : Fields) →
-        as_judged rest ≡ as_fit kind at (with_fields kind f own left standing all) →
-        as_judged (refuse (not t) 5 at (refuse cut 3 at rest)) ≡ as_fit kind at (pick t (with_fields kind f own left standing (pick cut fields.Cut all)) (Bad 5))
+    sized_law : (kind : ℕ) (f : Form) (t cut : Bool) (rest : Reading Record) (all : Option (Fields × Cursor)) →
+        as_judged rest ≡ as_fit kind at (with_fields kind f place all) →
+        as_judged (refuse (not t) 5 at (refuse cut 3 at rest)) ≡ as_fit kind at (pick t (with_fields kind f place (pick cut None all)) (Err BadLength))
     unfolding refuse
     sized_law kind f true true rest all e = refl
     sized_law kind f true false rest all e = e
@@ -143,8 +142,8 @@ module _ {A : Type 0} (refuses : ℕ → ℕ → A) (good : ℕ → ℕ → ℕ 
         refuse (not (eqb (two rest) size)) 5 at
         (refuse (ltb (length rest) size) 3 at
         (refuse (not (in_ranges ranges x.fields)) 6 at
-        (placed owed x at (judgement.found x (at + size)))))
-        ) ≡ as_fit kind at (judge_of s (at + 4) kind (two rest) (form_for ranges) own left standing))
+        (placed owed x at (found x (at + size)))))
+        ) ≡ as_fit kind at (judge_of s (at + 4) kind (two rest) (form_for ranges) place))
     unfolding judge_of fields_of is_outside
     length_law kind [] few h = absurd few
     length_law kind (p ∷ []) few h =
@@ -160,7 +159,7 @@ module _ {A : Type 0} (refuses : ℕ → ℕ → A) (good : ℕ → ℕ → ℕ 
     length_law kind (p ∷ q ∷ r ∷ rs) few h = absurd few
 
     -- The code's steps come to the public judgement of the record.
-    judged_is : ((i : ℕ) → Fits w8 (get_or s i 0)) → with_head s owed own left standing at (field_at s at) ≡ as_judged (judged s owed at)
+    judged_is : ((i : ℕ) → Fits w8 (get_or s i 0)) → with_head s owed place at (field_at s at) ≡ as_judged (judged s owed at)
     unfolding judged field_at form_of refuse
     judged_is are =
         let kind = two (drop 2 (drop at s)) in
@@ -168,67 +167,72 @@ module _ {A : Type 0} (refuses : ℕ → ℕ → A) (good : ℕ → ℕ → ℕ 
         let (upper, lower) = halves s at are in
         whole (ltb (length (drop at s)) 4) _ _ _ (rw (upper, lower) (
         owes (listed kind rows) _ _ (λ e. let (is, few) = in_table owed kind e in
-        ap (λ z. as_fit kind at (judge_of s (at + 4) kind (two (drop at s)) (form_for z) own left standing)) is
+        ap (λ z. as_fit kind at (judge_of s (at + 4) kind (two (drop at s)) (form_for z) place)) is
         ∙ sym (length_law kind (ranges_of kind rows) few e))))
       where
-        whole : (cut : Bool) (v : ℕ) (c : Cursor) (rest : Reading Record) → with_head s owed own left standing at (field.Value v c) ≡ as_judged rest →
-            with_head s owed own left standing at (pick cut field.Cut (field.Value v c)) ≡ as_judged (refuse cut 3 at rest)
+        whole : (cut : Bool) (v : ℕ) (c : Cursor) (rest : Reading Record) → with_head s owed place at (Some (v, c)) ≡ as_judged rest →
+            with_head s owed place at (pick cut None (Some (v, c))) ≡ as_judged (refuse cut 3 at rest)
         whole true v c rest e = refl
         whole false v c rest e = e
 
-        owes : (t : Bool) (x : A) (rest : Reading Record) → (t ≡ true → x ≡ as_judged rest) → pick t x (refuses 4 at) ≡ as_judged (refuse (not t) 4 at rest)
+        owes : (t : Bool) (x : Reading A) (rest : Reading Record) → (t ≡ true → x ≡ as_judged rest) → pick t x (refused 4 at) ≡ as_judged (refuse (not t) 4 at rest)
         owes true x rest e = e refl
         owes false x rest e = refl
 
--- what `construct` promises
-abbrev pub AsOwed : List ℕ → ℕ → ℕ → ℕ → ℕ → Found → Type 0
-AsOwed s own left standing at f = f ≡ found_of (judged s (construct_as own left standing) at)
+-- what `found` promises
+abbrev pub AsOwed : List ℕ → Place → ℕ → Reading Found → Type 0
+AsOwed s place at f = f ≡ found_of (judged s (owed_at place) at)
 
--- `construct`: the record is cut, or judged in the arm of its kind, or in the last arm
-module _ (s : List ℕ) (own left standing at : ℕ) (are : (i : ℕ) → Fits w8 (get_or s i 0)) where
-  abbrev construct_by : Field → Found
-  construct_by = with_head found.Refused by_kind s (construct_as own left standing) own left standing at
+-- `found`: the record is cut, or judged by its kind, or of no construct's kind
+module _ (s : List ℕ) (place : Place) (at : ℕ) (are : (i : ℕ) → Fits w8 (get_or s i 0)) where
+  abbrev construct_by : Option (ℕ × Cursor) → Reading Found
+  construct_by = with_head by_kind s (owed_at place) place at
 
-  construct_is : (f : Field) → f ≡ field_at s at → AsOwed s own left standing at (construct_by f)
+  construct_is : (f : Option (ℕ × Cursor)) → f ≡ field_at s at → AsOwed s place at (construct_by f)
   construct_is f e =
       ap construct_by e
-      ∙ judged_is found.Refused by_kind (construct_as own left standing) own left standing (placed_construct found.Refused by_kind own left standing) s at are
+      ∙ judged_is by_kind (owed_at place) place (placed_construct by_kind place) s at are
 
-  pub construct_cut : field.Cut ≡ field_at s at → AsOwed s own left standing at (found.Refused 3 at)
-  construct_cut = construct_is field.Cut
+  pub construct_cut : None ≡ field_at s at → AsOwed s place at (refused 3 at)
+  construct_cut = construct_is None
 
-  module _ (head : ℕ) (c : Cursor) (e : field.Value head c ≡ field_at s at) where
-    pub construct_arm : (kind : ℕ) → listed kind construct_rows ≡ true → head / 65536 ≡ kind → {j : Fit} →
-        j ≡ judge_of s c.at kind (head % 65536) (form_of kind) own left standing → AsOwed s own left standing at (on_fit found.Refused by_kind kind at j)
-    construct_arm kind h k {j} is =
-        ap (λ z. on_fit found.Refused by_kind kind at z) is
-        ∙ ap (λ z. on_fit found.Refused by_kind z at (judge_of s c.at z (head % 65536) (form_of z) own left standing)) (sym k)
-        ∙ (simp (ap (λ z. listed z construct_rows) k ∙ h) at (construct_is (field.Value head c) e))
+  module _ (head : ℕ) (c : Cursor) (e : Some (head, c) ≡ field_at s at) where
+    pub construct_arm : (kind : ℕ) → head / 65536 ≡ kind → listed kind construct_rows ≡ true → {r : Result (Found × Cursor) Fault} →
+        r ≡ rest_of by_kind kind (judge_of s c.at kind (head % 65536) (form_of kind) place) → AsOwed s place at (reading_from at r)
+    construct_arm kind k h is =
+        ap (λ z. reading_from at z) is
+        ∙ ap (λ z. as_fit by_kind z at (judge_of s c.at z (head % 65536) (form_of z) place)) (sym k)
+        ∙ (simp (ap (λ z. listed z construct_rows) k ∙ h) at (construct_is (Some (head, c)) e))
 
-    pub construct_none : listed (head / 65536) construct_rows ≡ false → AsOwed s own left standing at (found.Refused 4 at)
-    construct_none h = simp h at (construct_is (field.Value head c) e)
+    pub construct_none : listed (head / 65536) construct_rows ≡ false → AsOwed s place at (refused 4 at)
+    construct_none h = simp h at (construct_is (Some (head, c)) e)
 
 -- `sheet` and `routine`: only one kind is owed
-only_is : (owed : Owed) → Placed Refused as_read owed 0 1 0 → (kind : ℕ) → ((k : ℕ) → listed k (rows_of owed) ≡ eqb k kind) → (s : List ℕ) (at : ℕ) →
-    ((i : ℕ) → Fits w8 (get_or s i 0)) → only_of s kind at ≡ head_of (judged s owed at)
-unfolding only_of
-only_is owed place kind one s at are = go (field_at s at) ∙ judged_is Refused as_read owed 0 1 0 place s at are
-  where
-    told : ℕ → ℕ → ℕ → Head
-    told k size past = on_fit Refused as_read k at (judge_of s past k size (form_of k) 0 1 0)
+module _ {A : Type 0} (good : ℕ → ℕ → ℕ → A) where
+  only_is : (owed : Owed) → Placed good owed anywhere → (kind : ℕ) → ((k : ℕ) → listed k (rows_of owed) ≡ eqb k kind) → (s : List ℕ) (at : ℕ) →
+      ((i : ℕ) → Fits w8 (get_or s i 0)) → {r : Result (Fields × Cursor) Fault} → r ≡ only_of s kind at → as_fit good kind at r ≡ read_as good (judged s owed at)
+  unfolding only_of
+  only_is owed placed_is kind one s at are is =
+      ap (λ z. as_fit good kind at z) is ∙ go (field_at s at) ∙ judged_is good owed anywhere placed_is s at are
+    where
+      told : ℕ → ℕ → ℕ → Reading A
+      told k size past = as_fit good k at (judge_of s past k size (form_of k) anywhere)
 
-    same_kind : (k size past : ℕ) (t : Bool) → eqb k kind ≡ t → pick t (told kind size past) (Refused 4 at) ≡ pick t (told k size past) (Refused 4 at)
-    same_kind k size past true e = ap (λ z. told z size past) (sym (eqb-true k kind e))
-    same_kind k size past false e = refl
+      same_kind : (k size past : ℕ) (t : Bool) → eqb k kind ≡ t →
+          as_fit good kind at (pick t (judge_of s past kind size (form_of kind) anywhere) (Err BadKind)) ≡ pick t (told k size past) (refused 4 at)
+      same_kind k size past true e = ap (λ z. told z size past) (sym (eqb-true k kind e))
+      same_kind k size past false e = refl
 
-    go : (f : Field) → with_only s kind at f ≡ with_head Refused as_read s owed 0 1 0 at f
-    go field.Cut = refl
-    go (field.Value head c) = rw (one (head / 65536)) (same_kind (head / 65536) (head % 65536) c.at (eqb (head / 65536) kind) refl)
+      go : (f : Option (ℕ × Cursor)) → as_fit good kind at (with_only s kind f) ≡ with_head good s owed anywhere at f
+      go None = refl
+      go (Some (head, c)) = rw (one (head / 65536)) (same_kind (head / 65536) (head % 65536) c.at (eqb (head / 65536) kind) refl)
 
-pub sheet_is : (s : List ℕ) (at : ℕ) → ((i : ℕ) → Fits w8 (get_or s i 0)) → only_of s 100 at ≡ head_of (judged s sheet at)
+pub sheet_is : (s : List ℕ) (at : ℕ) → ((i : ℕ) → Fits w8 (get_or s i 0)) → {r : Result (Fields × Cursor) Fault} →
+    r ≡ only_of s 100 at → as_fit as_sheet 100 at r ≡ read_as as_sheet (judged s sheet at)
 unfolding listed
-sheet_is = only_is sheet (placed_sheet Refused as_read) 100 (λ k. itself (eqb k 100))
+sheet_is = only_is as_sheet sheet (placed_sheet as_sheet) 100 (λ k. itself (eqb k 100))
 
-pub routine_is : (s : List ℕ) (at : ℕ) → ((i : ℕ) → Fits w8 (get_or s i 0)) → only_of s 1 at ≡ head_of (judged s routine at)
+pub routine_is : (s : List ℕ) (at : ℕ) → ((i : ℕ) → Fits w8 (get_or s i 0)) → {r : Result (Fields × Cursor) Fault} →
+    r ≡ only_of s 1 at → as_fit as_routine 1 at r ≡ read_as as_routine (judged s routine at)
 unfolding listed
-routine_is = only_is routine (placed_routine Refused as_read) 1 (λ k. itself (eqb k 1))
+routine_is = only_is as_routine routine (placed_routine as_routine) 1 (λ k. itself (eqb k 1))

@@ -5,4 +5,5 @@ pub mod Judging
 pub mod Good
 pub mod Founds
 pub mod Leaves
+pub mod Numbers
 pub mod Determined

@@ -1,10 +1,17 @@
 // One record of a sheet: read at a cursor, and judged by what is owed there.
 #![tactic(auto)]
 
-ghost use Rattle.std.specs.Prelude.{◌≡◌, ◌≤◌, ◌<◌, length};
+ghost use Rattle.std.specs.Prelude.{◌≡◌, ◌≤◌, length};
 ghost use Rattle.meaning.specs.Judgement.{sheet, routine, judged};
-ghost use Rattle.records.specs.Records.{construct_as, head_of, found_of, leaf_of};
-ghost use Rattle.records.specs.Steps.{field_at, fields_at, form_of, is_outside, is_bad_call, misplaced, marker_fault, judge_of, only_of};
+ghost use Rattle.records.specs.Faults.{reading_of};
+ghost use Rattle.records.specs.Records.{owed_at, read_as, as_sheet, as_routine, by_kind, found_of, leaf_of};
+ghost use Rattle.records.specs.Steps.{kind_number, field_at, fields_at, form_of, is_outside, is_bad_call, marker_fault, misplaced, judge_of, rest_of, only_of, reading_from};
+
+mod faults;
+mod standings;
+
+pub use faults::{Fault, Refusal};
+pub use standings::Standing;
 
 // The reading place, handed from one record to the next by value.
 #[derive(Clone, Copy)]
@@ -12,86 +19,86 @@ pub struct Cursor {
     pub at: usize,
 }
 
-// A good record: its fields (0 for a second one that it does not have) and the cursor past it.
+// Where a construct's record stands: its routine's number, the depths left, and how it stands to a scope.
 #[derive(Clone, Copy)]
-pub struct Read {
-    pub first: u64,
-    pub second: u64,
-    pub next: Cursor,
+pub struct Place {
+    pub own: u64,
+    pub left: u64,
+    pub standing: Standing,
 }
 
+// The fields of a sheet's record.
 #[derive(Clone, Copy)]
-pub enum Head {
-    Good(Read),
-    Refused(u64, usize),
+pub struct SheetRecord {
+    pub edition: u64,
+    pub routines: u64,
 }
 
-// A construct's record as it is found: its fields and the cursor past it, by kind; or a refusal's number and place.
+// The field of a routine's record.
+#[derive(Clone, Copy)]
+pub struct RoutineRecord {
+    pub organisation: u64,
+}
+
+// A construct's record: its kind with its fields. A loop has a count, and whether it is a scope; a marker a limit and a cost.
 #[derive(Clone, Copy)]
 pub enum Found {
-    Primitive(u64, Cursor),
-    Sequence(u64, Cursor),
-    Alternative(u64, Cursor),
-    HeadLoop(u64, u64, Cursor),
-    TailLoop(u64, u64, Cursor),
-    TimedLoop(u64, Cursor),
-    Call(u64, Cursor),
-    Marker(u64, u64, Cursor),
-    Refused(u64, usize),
+    Primitive(u64),
+    Sequence(u64),
+    Alternative(u64),
+    HeadLoop(u64, bool),
+    TailLoop(u64, bool),
+    TimedLoop(u64),
+    Call(u64),
+    Marker(u64, u64),
 }
 
-// A record that owns nothing, read at once; any other record, and any that is refused, is Other.
+// A record that owns nothing, read at once.
 #[derive(Clone, Copy)]
 pub enum Leaf {
-    Primitive(u64, Cursor),
-    Call(u64, Cursor),
-    Marker(u64, u64, Cursor),
-    Other,
+    Primitive(u64),
+    Call(u64),
+    Marker(u64, u64),
+}
+
+// The kinds of records, with their numbers.
+#[derive(Clone, Copy, PartialEq, Eq)]
+enum Kind {
+    Routine = 1,
+    Primitive = 2,
+    Sequence = 3,
+    Alternative = 4,
+    HeadLoop = 5,
+    TailLoop = 6,
+    TimedLoop = 7,
+    Call = 8,
+    Marker = 9,
+    Sheet = 100,
+}
+
+impl From<Kind> for u64 {
+    ghost from_gives = { λ kind number. number ≡ kind_number kind };
+
+    fn from(kind: Kind) -> u64 {
+        kind as u64
+    }
+}
+
+// The fields of a record. A second one that it does not have is 0, which is what the public definitions have of it (`Format.field`).
+#[derive(Clone, Copy)]
+struct Fields {
+    first: u64,
+    second: u64,
 }
 
 // What the table says of a kind: the length and the ranges of the fields.
-#[derive(Drop)]
-pub(crate) struct Form {
-    pub length: u64,
-    pub least: u64,
-    pub most: u64,
-    pub least2: u64,
-    pub most2: u64,
-}
-
-// A field and the cursor past it, or the sheet ends inside it.
-#[derive(Drop)]
-pub(crate) enum Field {
-    Value(u64, Cursor),
-    Cut,
-}
-
-// The fields of a record and the cursor past them, or the sheet ends inside them.
-#[derive(Drop)]
-pub(crate) enum Fields {
-    All(u64, u64, Cursor),
-    Cut,
-}
-
-// A record of a kind, judged: its fields (0 for a second one that it does not have) and the cursor past it, or a refusal's number.
-#[derive(Drop)]
-pub(crate) enum Fit {
-    Good(u64, u64, Cursor),
-    Bad(u64),
-}
-
-// Where a record stands: its routine's number, the depths left, and how it stands to a scope.
-#[derive(Drop)]
-pub(crate) struct Place {
-    pub own: u64,
-    pub left: u64,
-    pub standing: u64,
-}
-
-fn wide(b: u8) -> u64
-    ensures { (result ≡ b) × (result < 256) }
-{
-    b as u64
+#[derive(Clone, Copy)]
+struct Form {
+    length: u64,
+    least: u64,
+    most: u64,
+    least2: u64,
+    most2: u64,
 }
 
 // A row of the table by its columns, so that each kind is one line.
@@ -107,272 +114,298 @@ fn row(length: u64, least: u64, most: u64, least2: u64, most2: u64) -> Form
     }
 }
 
-// Whether a field lies outside its range.
-#[tactic(auto, unfolding(crate::specs::Steps::is_outside))]
-fn is_outside(f: Form, first: u64, second: u64) -> bool
-    ensures { result ≡ is_outside f first second }
-{
-    if first < f.least {
-        return true;
+impl Form {
+    // Whether a field lies outside its range.
+    #[tactic(auto, unfolding(crate::specs::Steps::is_outside))]
+    fn is_outside(self, all: Fields) -> bool
+        ensures { result ≡ is_outside self all.first all.second }
+    {
+        all.first < self.least
+            || self.most < all.first
+            || all.second < self.least2
+            || self.most2 < all.second
     }
-    if f.most < first {
-        return true;
-    }
-    if second < f.least2 {
-        return true;
-    }
-    f.most2 < second
 }
 
-// Whether a record calls no routine before its own.
+impl Kind {
+    // The construct of this kind with these fields. Of the kinds of constructs the last is the marker.
+    fn found(self, all: Fields) -> Found
+        ensures { result ≡ by_kind (kind_number self) all.first all.second }
+    {
+        match self {
+            Kind::Primitive => Found::Primitive(all.first),
+            Kind::Sequence => Found::Sequence(all.first),
+            Kind::Alternative => Found::Alternative(all.first),
+            Kind::HeadLoop => Found::HeadLoop(all.first, all.second == 1),
+            Kind::TailLoop => Found::TailLoop(all.first, all.second == 1),
+            Kind::TimedLoop => Found::TimedLoop(all.first),
+            Kind::Call => Found::Call(all.first),
+            _ => Found::Marker(all.first, all.second),
+        }
+    }
+}
+
+// Whether a call's number is of no routine before its own.
 #[tactic(auto, unfolding(crate::specs::Steps::is_bad_call))]
-fn is_bad_call(kind: u64, first: u64, own: u64) -> bool
-    ensures { result ≡ is_bad_call kind first own }
+fn is_bad_call(number: u64, own: u64) -> bool
+    ensures { result ≡ is_bad_call number own }
 {
-    if kind != 8 {
-        return false;
-    }
-    if first == 0 {
-        return true;
-    }
-    own <= first
+    number == 0 || own <= number
 }
 
-// STRAY MARKER or NO PLAIN BRANCH, or 0 for a marker that may stand here.
+// STRAY MARKER or NO PLAIN BRANCH, where a marker may not stand.
 #[tactic(auto, unfolding(crate::specs::Steps::marker_fault))]
-fn marker_fault(standing: u64) -> u64
+fn marker_fault(standing: Standing) -> Option<Fault>
     ensures { result ≡ marker_fault standing }
 {
     match standing {
-        5 => 0,
-        6 => 10,
-        _ => 9,
+        Standing::Leading => None,
+        Standing::LeadingLast => Some(Fault::NoPlainBranch),
+        _ => Some(Fault::StrayMarker),
     }
 }
 
-// BAD CALL, TOO DEEP, STRAY MARKER or NO PLAIN BRANCH, or 0.
+// BAD CALL, TOO DEEP, STRAY MARKER or NO PLAIN BRANCH.
 #[tactic(auto, unfolding(crate::specs::Steps::misplaced))]
-fn misplaced(kind: u64, first: u64, own: u64, left: u64, standing: u64) -> u64
-    ensures { result ≡ misplaced kind first own left standing }
+fn misplaced(kind: Kind, first: u64, place: Place) -> Option<Fault>
+    ensures { result ≡ misplaced (kind_number kind) first place }
 {
-    if is_bad_call(kind, first, own) {
-        return 7;
+    if kind == Kind::Call && is_bad_call(first, place.own) {
+        return Some(Fault::BadCall);
     }
-    if left == 0 {
-        return 8;
+    if place.left == 0 {
+        return Some(Fault::TooDeep);
     }
-    if kind == 9 {
-        return marker_fault(standing);
+    if kind == Kind::Marker {
+        return marker_fault(place.standing);
     }
-    0
+    None
 }
 
 impl Cursor {
-    // Four bytes, little-endian. One test for the sheet's end: with the last byte the three before it are there.
-    fn word(self, s: &[u8]) -> Field
+    // Four bytes, little-endian. One test for the sheet's end: with the last byte the three before it are there. The sheet goes beside the cursor, which
+    // the specification hands on by value (docs/FORMS.md), so each step asks that it lies in the sheet.
+    #[tactic(auto, using(crate::proofs::Laws::field_short, crate::proofs::Laws::field_made))]
+    fn word(self, s: &[u8]) -> Option<(u64, Cursor)>
         requires { self.at ≤ length s.now }
         ensures { result ≡ field_at s.now self.at }
     {
         let at = self.at;
         if s.len() < at + 4 {
-            return Field::Cut;
+            return None;
         }
-        let b0 = wide(s[at]);
-        let b1 = wide(s[at + 1]);
-        let b2 = wide(s[at + 2]);
-        let b3 = wide(s[at + 3]);
-        Field::Value(
-            b0 + 256 * b1 + 65536 * b2 + 16777216 * b3,
-            Cursor { at: at + 4 },
-        )
+        let word = u32::from_le_bytes([s[at], s[at + 1], s[at + 2], s[at + 3]]);
+        Some((u64::from(word), Cursor { at: at + 4 }))
     }
 
     // One field, or two.
-    #[tactic(auto, unfolding(crate::specs::Steps::fields_at))]
-    fn fields(self, s: &[u8], both: bool) -> Fields
+    #[tactic(auto, using(crate::proofs::Laws::field_past), unfolding(crate::specs::Steps::fields_at))]
+    fn fields(self, s: &[u8], both: bool) -> Option<(Fields, Cursor)>
         requires { self.at ≤ length s.now }
         ensures { result ≡ fields_at s.now self.at both }
     {
-        let Field::Value(first, c) = self.word(s) else {
-            return Fields::Cut;
-        };
+        let (first, c) = self.word(s)?;
         if both {
-            let Field::Value(second, d) = c.word(s) else {
-                return Fields::Cut;
-            };
-            return Fields::All(first, second, d);
+            let (second, next) = c.word(s)?;
+            return Some((Fields { first, second }, next));
         }
-        Fields::All(first, 0, c)
+        Some((Fields { first, second: 0 }, c))
     }
 
-    // The rest of a record of this kind, whose row is f, from its length on.
+    // The length and the kind of a record, which are read as one field.
+    #[tactic(auto, using(crate::proofs::Laws::field_short))]
+    fn head(self, s: &[u8]) -> Option<(u64, Cursor)>
+        ensures { result ≡ field_at s.now self.at }
+    {
+        if s.len() < self.at {
+            return None;
+        }
+        self.word(s)
+    }
+
+    // The rest of a record of this kind, whose row is f, from its length on. The row goes beside the kind, since it stands in the arm of the kind's number.
     #[tactic(auto, unfolding(crate::specs::Steps::judge_of))]
-    fn judge(self, s: &[u8], kind: u64, size: u64, f: Form, p: Place) -> Fit
-        requires { (self.at ≤ length s.now) × (f ≡ form_of kind) }
-        ensures { result ≡ judge_of s.now self.at kind size (form_of kind) p.own p.left p.standing }
+    fn judge(
+        self,
+        s: &[u8],
+        kind: Kind,
+        size: u64,
+        f: Form,
+        place: Place,
+    ) -> Result<(Fields, Cursor), Fault>
+        requires { (self.at ≤ length s.now) × (f ≡ form_of (kind_number kind)) }
+        ensures { result ≡ judge_of s.now self.at (kind_number kind) size (form_of (kind_number kind)) place }
     {
         if size != f.length {
-            return Fit::Bad(5);
+            return Err(Fault::BadLength);
         }
-        let Fields::All(first, second, next) = self.fields(s, f.length == 12) else {
-            return Fit::Bad(3);
+        let Some((all, next)) = self.fields(s, f.length == 12) else {
+            return Err(Fault::Cut);
         };
-        if is_outside(f, first, second) {
-            return Fit::Bad(6);
+        if f.is_outside(all) {
+            return Err(Fault::BadField);
         }
-        let fault = misplaced(kind, first, p.own, p.left, p.standing);
-        if fault != 0 {
-            return Fit::Bad(fault);
+        match misplaced(kind, all.first, place) {
+            Some(fault) => Err(fault),
+            None => Ok((all, next)),
         }
-        Fit::Good(first, second, next)
     }
 
     // The record at the cursor where only this kind is owed, which is neither a call nor a marker, by its row.
-    fn only(self, s: &[u8], kind: u64, f: Form) -> Head
-        requires { f ≡ form_of kind }
-        ensures { result ≡ only_of s.now kind self.at }
+    #[tactic(auto, using(crate::proofs::Laws::field_past), unfolding(crate::specs::Steps::only_of))]
+    fn only(self, s: &[u8], kind: Kind, f: Form) -> Result<(Fields, Cursor), Fault>
+        requires { f ≡ form_of (kind_number kind) }
+        ensures { result ≡ only_of s.now (kind_number kind) self.at }
     {
-        let start = self.at;
-        if s.len() < start {
-            return Head::Refused(3, start);
-        }
-        let Field::Value(head, c) = self.word(s) else {
-            return Head::Refused(3, start);
+        let Some((head, c)) = self.head(s) else {
+            return Err(Fault::Cut);
         };
-        if head / 65536 != kind {
-            return Head::Refused(4, start);
+        if head / 65536 != u64::from(kind) {
+            return Err(Fault::BadKind);
         }
-        let p = Place {
+        // any place would do that is not too deep: only calls and markers are judged by the rest of it
+        let place = Place {
             own: 0,
             left: 1,
-            standing: 0,
+            standing: Standing::Outside,
         };
-        match c.judge(s, kind, head % 65536, f, p) {
-            Fit::Good(first, second, next) => Head::Good(Read {
-                first,
-                second,
-                next,
-            }),
-            Fit::Bad(fault) => Head::Refused(fault, start),
+        c.judge(s, kind, head % 65536, f, place)
+    }
+
+    // A fault of the record at the cursor: its place is the record's start.
+    fn refusal(self, fault: Fault) -> Refusal
+        ensures { result ≡ record { fault = fault; place = self.at } }
+    {
+        Refusal {
+            fault,
+            place: self.at,
         }
     }
 
     // The sheet record at the cursor, judged, with the cursor past it.
-    pub fn sheet(self, s: &[u8]) -> Head
-        ensures { result ≡ head_of (judged s.now sheet self.at) }
+    #[tactic(auto, unfolding(crate::specs::Steps::form_of, meaning::specs::Format::ranges_of))]
+    pub fn sheet(self, s: &[u8]) -> Result<(SheetRecord, Cursor), Refusal>
+        ensures { reading_of result ≡ read_as as_sheet (judged s.now sheet self.at) }
     {
-        self.only(s, 100, row(12, 1, 1, 1, 64))
+        match self.only(s, Kind::Sheet, row(12, 1, 1, 1, 64)) {
+            Ok((all, next)) => {
+                let read = SheetRecord {
+                    edition: all.first,
+                    routines: all.second,
+                };
+                Ok((read, next))
+            }
+            Err(fault) => Err(self.refusal(fault)),
+        }
     }
 
     // The routine record at the cursor, judged, with the cursor past it.
-    pub fn routine(self, s: &[u8]) -> Head
-        ensures { result ≡ head_of (judged s.now routine self.at) }
+    #[tactic(auto, unfolding(crate::specs::Steps::form_of, meaning::specs::Format::ranges_of))]
+    pub fn routine(self, s: &[u8]) -> Result<(RoutineRecord, Cursor), Refusal>
+        ensures { reading_of result ≡ read_as as_routine (judged s.now routine self.at) }
     {
-        self.only(s, 1, row(8, 0, 4294967295, 0, 0))
+        match self.only(s, Kind::Routine, row(8, 0, 4294967295, 0, 0)) {
+            Ok((all, next)) => {
+                let read = RoutineRecord {
+                    organisation: all.first,
+                };
+                Ok((read, next))
+            }
+            Err(fault) => Err(self.refusal(fault)),
+        }
+    }
+
+    // The rest of a construct's record of this kind, whose row is f, from its length on.
+    fn rest(
+        self,
+        s: &[u8],
+        kind: Kind,
+        size: u64,
+        f: Form,
+        place: Place,
+    ) -> Result<(Found, Cursor), Fault>
+        requires { (self.at ≤ length s.now) × (f ≡ form_of (kind_number kind)) }
+        ensures { result ≡ rest_of by_kind (kind_number kind) (judge_of s.now self.at (kind_number kind) size (form_of (kind_number kind)) place) }
+    {
+        let (all, next) = self.judge(s, kind, size, f, place)?;
+        Ok((kind.found(all), next))
+    }
+
+    // The construct's record at the cursor, judged, by its kind, with the cursor past it; or a fault there.
+    #[tactic(auto, using(crate::proofs::Laws::field_past, crate::proofs::Judging::construct_cut, crate::proofs::Judging::construct_none), unfolding(crate::specs::Steps::form_of, meaning::specs::Format::listed, meaning::specs::Format::ranges_of))]
+    fn found(self, s: &[u8], place: Place) -> Result<(Found, Cursor), Fault>
+        ensures { reading_from self.at result ≡ found_of (judged s.now (owed_at place) self.at) }
+    {
+        let Some((head, c)) = self.head(s) else {
+            return Err(Fault::Cut);
+        };
+        let size = head % 65536;
+        // The specification names this `match` on the number (docs/FORMS.md): kind, and in its row length, least and most of the first field, least
+        // and most of the second.
+        match head / 65536 {
+            2 => c.rest(s, Kind::Primitive, size, row(8, 0, 4294967295, 0, 0), place),
+            3 => c.rest(s, Kind::Sequence, size, row(8, 0, 1000, 0, 0), place),
+            4 => c.rest(s, Kind::Alternative, size, row(8, 2, 256, 0, 0), place),
+            5 => c.rest(s, Kind::HeadLoop, size, row(12, 0, 1000000, 0, 1), place),
+            6 => c.rest(s, Kind::TailLoop, size, row(12, 1, 1000000, 0, 1), place),
+            7 => c.rest(s, Kind::TimedLoop, size, row(8, 0, 4294967295, 0, 0), place),
+            8 => c.rest(s, Kind::Call, size, row(8, 0, 4294967295, 0, 0), place),
+            9 => c.rest(
+                s,
+                Kind::Marker,
+                size,
+                row(12, 0, 1000000, 0, 4294967295),
+                place,
+            ),
+            _ => Err(Fault::BadKind),
+        }
     }
 
     // The construct's record at the cursor, judged, by its kind, with the cursor past it.
-    // own: its routine's number; left: the depths left; standing: how it stands to a scope (Records.reach_of).
-    pub fn construct(self, s: &[u8], own: u64, left: u64, standing: u64) -> Found
-        ensures { result ≡ found_of (judged s.now (construct_as own left standing) self.at) }
+    pub fn construct(self, s: &[u8], place: Place) -> Result<(Found, Cursor), Refusal>
+        ensures { reading_of result ≡ found_of (judged s.now (owed_at place) self.at) }
     {
-        let start = self.at;
-        if s.len() < start {
-            return Found::Refused(3, start);
-        }
-        let Field::Value(head, c) = self.word(s) else {
-            return Found::Refused(3, start);
-        };
-        let kind = head / 65536;
-        let size = head % 65536;
-        let p = Place {
-            own,
-            left,
-            standing,
-        };
-        // kind, and in its row: length, least and most of the first field, least and most of the second
-        match kind {
-            2 => match c.judge(s, 2, size, row(8, 0, 4294967295, 0, 0), p) {
-                Fit::Good(cost, _, next) => Found::Primitive(cost, next),
-                Fit::Bad(fault) => Found::Refused(fault, start),
-            },
-            3 => match c.judge(s, 3, size, row(8, 0, 1000, 0, 0), p) {
-                Fit::Good(n, _, next) => Found::Sequence(n, next),
-                Fit::Bad(fault) => Found::Refused(fault, start),
-            },
-            4 => match c.judge(s, 4, size, row(8, 2, 256, 0, 0), p) {
-                Fit::Good(n, _, next) => Found::Alternative(n, next),
-                Fit::Bad(fault) => Found::Refused(fault, start),
-            },
-            5 => match c.judge(s, 5, size, row(12, 0, 1000000, 0, 1), p) {
-                Fit::Good(count, scope, next) => Found::HeadLoop(count, scope, next),
-                Fit::Bad(fault) => Found::Refused(fault, start),
-            },
-            6 => match c.judge(s, 6, size, row(12, 1, 1000000, 0, 1), p) {
-                Fit::Good(count, scope, next) => Found::TailLoop(count, scope, next),
-                Fit::Bad(fault) => Found::Refused(fault, start),
-            },
-            7 => match c.judge(s, 7, size, row(8, 0, 4294967295, 0, 0), p) {
-                Fit::Good(time, _, next) => Found::TimedLoop(time, next),
-                Fit::Bad(fault) => Found::Refused(fault, start),
-            },
-            8 => match c.judge(s, 8, size, row(8, 0, 4294967295, 0, 0), p) {
-                Fit::Good(number, _, next) => Found::Call(number, next),
-                Fit::Bad(fault) => Found::Refused(fault, start),
-            },
-            9 => match c.judge(s, 9, size, row(12, 0, 1000000, 0, 4294967295), p) {
-                Fit::Good(limit, cost, next) => Found::Marker(limit, cost, next),
-                Fit::Bad(fault) => Found::Refused(fault, start),
-            },
-            _ => Found::Refused(4, start),
-        }
+        self.found(s, place).map_err(|fault| self.refusal(fault))
     }
 
-    // The record at the cursor where it is good and owns nothing. Its head is the length and the kind at once: 8 and 2, 8 and 8, 12 and 9.
-    pub fn leaf(self, s: &[u8], own: u64, left: u64, standing: u64) -> Leaf
-        ensures { result ≡ leaf_of (found_of (judged s.now (construct_as own left standing) self.at)) }
+    // The record at the cursor where it is good and owns nothing. Its head is the length and the kind at once, 8 and 2, 8 and 8, 12 and 9, compared as
+    // one number: the bar of speed for sheets of primitives needs it (docs/PERFORMANCE.md).
+    #[tactic(auto, using(crate::proofs::Laws::field_past))]
+    #[inline(always)]
+    pub fn leaf(self, s: &[u8], place: Place) -> Option<(Leaf, Cursor)>
+        ensures { result ≡ leaf_of (found_of (judged s.now (owed_at place) self.at)) }
     {
-        let at = self.at;
         // the end of the last record that is 8 long: the same for a whole list
         if s.len() < 8 {
-            return Leaf::Other;
+            return None;
         }
-        if s.len() - 8 < at {
-            return Leaf::Other;
+        if s.len() - 8 < self.at {
+            return None;
         }
-        if left == 0 {
-            return Leaf::Other;
+        if place.left == 0 {
+            return None;
         }
-        let Field::Value(head, c) = self.word(s) else {
-            return Leaf::Other;
-        };
-        let Field::Value(first, next) = c.word(s) else {
-            return Leaf::Other;
-        };
+        let (head, c) = self.word(s)?;
+        let (first, next) = c.word(s)?;
         let is_primitive = head == 131080;
         if is_primitive {
-            return Leaf::Primitive(first, next);
+            return Some((Leaf::Primitive(first), next));
         }
         if head == 524296 {
-            if is_bad_call(8, first, own) {
-                return Leaf::Other;
+            if is_bad_call(first, place.own) {
+                return None;
             }
-            return Leaf::Call(first, next);
+            return Some((Leaf::Call(first), next));
         }
         if head == 589836 {
-            let is_stray = standing != 5;
-            if is_stray {
-                return Leaf::Other;
+            let may_stand = place.standing == Standing::Leading;
+            let is_in_range = first <= 1000000;
+            if !may_stand || !is_in_range {
+                return None;
             }
-            let is_out_of_range = 1000000 < first;
-            if is_out_of_range {
-                return Leaf::Other;
-            }
-            let Field::Value(second, past) = next.word(s) else {
-                return Leaf::Other;
-            };
-            return Leaf::Marker(first, second, past);
+            let (second, past) = next.word(s)?;
+            return Some((Leaf::Marker(first, second), past));
         }
-        Leaf::Other
+        None
     }
 }

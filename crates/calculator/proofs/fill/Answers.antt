@@ -1,28 +1,33 @@
 -- `fill` meets its contract: what was read reports what the definitions say (`read_law`), and only an accepted sheet is stored.
-use Rattle.std.proofs.Common.{sym}
-use Rattle.calculator.proofs.Laws.{no_room_lem, refuses, accepts}
-use Rattle.bridge.proofs.Law.{read_law}
+use Rattle.std.proofs.Common.{◌≤◌, sym, ap}
+use mathlib.Core.Path.{subst}
+use Rattle.reader.specs.Said.{said_of}
+use Rattle.reader.specs.Reader.{reported}
+use Rattle.bridge.proofs.Law.{Reported, read_law}
 use Rattle.reader.proofs.Few.{few_read}
+use Rattle.calculator.proofs.Laws.{no_room_lem, refuses, accepts}
 use Rattle.calculator.proofs.fill.Goals as goal
+use Rattle.calculator.proofs.fill.Goals.{After-read-report}
+
+-- what was read, and of how many routines
+read_is : (c : After-read-report) → Reported c.args.sheet.now 0 (reported c.read-report.result)
+read_is c = subst (Reported c.args.sheet.now 0) (sym c.read-report.ensures) (read_law c.args.sheet.now 0)
+
+few : (c : After-read-report) → c.read-report.result.bounds.count ≤ 64
+few c = subst (λ r. r.bounds.count ≤ 64) (sym c.read-report.ensures) (few_read c.args.sheet.now 0).few
 
 pub returns-then-no_room : goal.returns-then-no_room
-returns-then-no_room c =
-    let fills = no_room_lem c.args.sheet.now c.args.table.now c.if-no_room.true in
-    record { answer_value = fills.0; routines_value = fills.1.0; constructs_value = fills.1.1.0; table_after = fills.1.1.1.0; routines_bound = fills.1.1.1.1 }
+returns-then-no_room c = rw c.none.ensures (no_room_lem c.args.sheet.now c.args.table.now c.if-no_room.true)
 
 pub copy_out-requires : goal.copy_out-requires
-copy_out-requires c = (rw c.read-report.ensures (few_read c.args.sheet.now 0).few, c.if-no_room.false)
+copy_out-requires c = (few (goal.at.copy_out-requires c).After-read-report, c.if-no_room.false)
 
-pub returns-then-is_accepted : goal.returns-then-is_accepted
-returns-then-is_accepted c =
-    let fills =
-    accepts c.args.table.now c.if-no_room.false {report = c.read-report.result} (rw c.read-report.ensures (read_law c.args.sheet.now 0))
-    (sym c.if-is_accepted.ensures) (rw c.read-report.ensures (few_read c.args.sheet.now 0).few) c.copy_out.ensures in
-    record { answer_value = fills.0; routines_value = fills.1.0; constructs_value = fills.1.1.0; table_after = fills.1.1.1.0; routines_bound = fills.1.1.1.1 }
+pub returns-in-Accepted : goal.returns-in-Accepted
+returns-in-Accepted c =
+    let read = (goal.at.returns-in-Accepted c).After-read-report in
+    accepts c.args.table.now c.if-no_room.false (read_is read) (ap said_of c.in-Accepted.is) (few read) c.copy_out.ensures
 
-pub returns : goal.returns
-returns c =
-    let fills =
-    refuses c.args.table.now c.if-no_room.false {report = c.read-report.result} (rw c.read-report.ensures (read_law c.args.sheet.now 0))
-    (sym c.if-is_accepted.ensures) in
-    record { answer_value = fills.0; routines_value = fills.1.0; constructs_value = fills.1.1.0; table_after = fills.1.1.1.0; routines_bound = fills.1.1.1.1 }
+pub returns-in-Refused : goal.returns-in-Refused
+returns-in-Refused c =
+    let read = (goal.at.returns-in-Refused c).After-read-report in
+    rw c.none-in-Refused.ensures (refuses c.args.table.now c.if-no_room.false (read_is read) (ap said_of c.in-Refused.is))

@@ -8,10 +8,10 @@ use Rattle.console.proofs.take_in.Goals as goal
 pub loop-count-preserved : goal.loop-count-preserved
 loop-count-preserved g c =
     let before = c.loop-count.count in
-    let n = c.in-Bytes.n in
+    let n = c.in-Ok.n in
     let after = c.read_some.new.input in
     let joined = ap (λ l. l ++ take n (drop before after)) (sym c.read_some.ensures.front) ∙ sym (take-add before n after) in (
       omega arith,
-      omega (arith, c.in-Bytes.ensures.within, c.loop-count.invariant.0),
-      subst (Consumes _ _) joined (Consumes-trans _ _ _ _ _ c.loop-count.invariant.2 c.in-Bytes.ensures.gives.0),
+      omega (arith, c.in-Ok.ensures.within, c.loop-count.invariant.0),
+      subst (Consumes _ _) joined (Consumes-trans _ _ _ _ _ c.loop-count.invariant.2 c.in-Ok.ensures.gives.0),
     )

@@ -1,20 +1,25 @@
 -- `print` puts the lines of what the calculator answers, which are the output of the sheet.
-use Rattle.lines.proofs.Outputs.{prints_bounds, prints_refusal}
+use Rattle.std.proofs.Common.{◌≡◌, refl, length, replicate, arith}
+use Rattle.lines.specs.Output.{output, onto}
+use Rattle.lines.proofs.Outputs.{from_start, prints_bounds, prints_refusal}
 use Rattle.lines.proofs.print.Goals as goal
+use Rattle.lines.proofs.print.Goals.{Joined-filled, in-Accepted, in-Refused}
 
-pub returns-in-Accepted : goal.returns-in-Accepted
-returns-in-Accepted c =
+printed : (c : Joined-filled) → let out = output c.args.sheet.now in
+    (c.match-filled.page.at ≡ length out) × (c.match-filled.page.bytes.now ≡ onto out c.args.page.now)
+printed c =
     let filled = c.fill-filled.ensures in
-    let routines = c.put_routines-at.ensures in
-    let bound = c.put_bound.ensures in
-    let printed = prints_bounds c.args.sheet.now c.no_bounds-table.result c.args.page.now c.no_bounds-table.ensures c.told-page
-    c.in-Accepted.is filled.answer_value (filled.routines_value, (filled.table_after, filled.routines_bound))
-    (routines.value, (routines.page_after, routines.upper_bound)) (bound.value, (bound.page_after, bound.upper_bound)) in
-    record { value = printed.0; page_after = printed.1.0; prefix_len = printed.1.1 }
+    let out = output c.args.sheet.now in
+    elim c.match-filled.branch [
+      | in-Accepted w ↦ rw w.page-is (from_start out refl
+          (prints_bounds c.args.sheet.now (replicate 64 0) refl (omega arith) w.in-Accepted.is filled.answer_value filled.routines_value
+          filled.table_after w.put_routines.ensures.put w.put_bound.ensures.put))
+      | in-Refused w ↦ rw w.page-is (from_start out refl
+          (prints_refusal c.args.sheet.now (replicate 64 0) refl w.in-Refused.is w.from.ensures filled.answer_value w.put_refusal.ensures.put))
+    ]
 
-pub returns-in-Refused : goal.returns-in-Refused
-returns-in-Refused c =
-    let refusal = c.put_refusal.ensures in
-    let printed = prints_refusal c.args.sheet.now c.no_bounds-table.result c.args.page.now c.no_bounds-table.ensures c.told-page
-    c.in-Refused.is c.fill-filled.ensures.answer_value (refusal.value, (refusal.page_after, refusal.upper_bound)) in
-    record { value = printed.0; page_after = printed.1.0; prefix_len = printed.1.1 }
+pub returns-clause-value : goal.returns-clause-value
+returns-clause-value c = (printed (goal.at.returns-clause-value c).Joined-filled).0
+
+pub returns-clause-page_after : goal.returns-clause-page_after
+returns-clause-page_after c = (printed (goal.at.returns-clause-page_after c).Joined-filled).1

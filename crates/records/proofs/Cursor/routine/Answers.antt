@@ -1,13 +1,9 @@
--- `Cursor::routine` judges by the row of kind 1.
-use Rattle.std.proofs.Common.{◌∙◌}
-use Rattle.meaning.specs.Format.{ranges_of}
-use Rattle.records.specs.Steps.{form_of}
+-- What `only` tells of the routine's record is the document's judgement of it.
 use Rattle.records.proofs.Judging.{routine_is}
 use Rattle.records.proofs.Cursor.routine.Goals as goal
 
-pub only-requires : goal.only-requires
-unfolding form_of ranges_of
-only-requires c = c.row.ensures
+pub returns-in-Ok : goal.returns-in-Ok
+returns-in-Ok c = routine_is _ _ c.type_inv.s c.in-Ok.ensures
 
-pub returns : goal.returns
-returns c = c.only.ensures ∙ routine_is _ _ c.type_inv.s
+pub returns-in-Err : goal.returns-in-Err
+returns-in-Err c = rw c.refusal.ensures (routine_is _ _ c.type_inv.s c.in-Err.ensures)
