@@ -1,11 +1,12 @@
 -- From what the reading of a sheet reports to what the calculator promises.
-use Prim.Native.Nat.{ℕ, ◌-◌, ◌≤◌, ◌<◌}
+use Prim.Native.Nat.{ℕ, suc, ◌+◌, ◌-◌, ◌≤◌, ◌<◌}
 use mathlib.Core.Path.{◌≡◌, refl, sym, ap, ◌∙◌}
-use mathlib.Core.List.{List, [], ◌++◌, append-nil}
-use lib.ListN.{length, take, drop, length-append, length-take, length-drop}
-use lib.Seq.{drop-nil}
+use mathlib.Core.List.{List, [], ◌++◌, append_assoc, append-nil}
+use lib.ListN.{length, get_or, set, take, drop, length-append, length-take, length-drop}
+use lib.Seq.{drop-cons, drop-nil, set_at, take-suc}
 use borrow.Author.Tests.{lt-ltb, le-ltb}
 use native.Mathlib.Omega.{arith}
+use native.Mathlib.Numerals.{add-one}
 use Rattle.meaning.specs.Tree.{Sheet}
 use Rattle.meaning.specs.Value.{nothing, bounds_of}
 use Rattle.meaning.specs.Answer.{Verdict, accepted, refused, outcome, told, answer, stored, table_after, part_of, routine_part}
@@ -19,6 +20,13 @@ use Rattle.reader.specs.Reports.{stored_of}
 use Rattle.bridge.proofs.Law.{Reported}
 use Rattle.calculator.specs.declared.Places.{Places}
 use Rattle.calculator.specs.Promises.{filled_by, filled, part_at}
+
+-- one place more of a table, or of another list
+pub stored_more : {A : Type 0} (none : A) (v t : List A) (i : ℕ) → i < length v → i < length t →
+    set (take i v ++ drop i t) i (get_or v i none) ≡ take (i + 1) v ++ drop (i + 1) t
+stored_more none v t i h k =
+    let l : length (take i v) ≡ i = simp length-take (omega arith) in
+    rw (drop-cons t i none, set_at (take i v) (get_or t i none) (drop (suc i) t) (get_or v i none) i l, add-one i, take-suc v i none, append_assoc)
 
 -- what `fill` promises: what is said, of how many routines, the constructs valued, and the table after
 abbrev Fills : List ℕ → List ℕ → Verdict ℕ → ℕ → ℕ → List ℕ → Type 0

@@ -16,8 +16,15 @@ struct Taken {
     failed: Option<io::Error>,
 }
 
-// One byte more than a sheet may have: what comes after it changes no answer (lines, Enough.enough).
 const ROOM: usize = 60001;
+
+// One byte more than a sheet may have: what comes after it changes no answer (lines, Enough.enough). The clause says how many bytes that is, since no
+// other promise here holds the number.
+fn no_input() -> [u8; ROOM]
+    ensures { 60001 ≡ length result }
+{
+    [0; ROOM]
+}
 
 // What a read into the rest of the room came to, by what it answered.
 fn told(answer: io::Result<usize>, rest: &[u8]) -> io::Result<usize>
@@ -126,7 +133,7 @@ fn print(rt: &HostRuntime, sheet: &[u8]) {
 
 // Reads a sheet and prints its answer. A read that fails is said on standard error, and there is no answer.
 pub fn answer(rt: &HostRuntime, from: &mut impl Read, name: &[u8]) {
-    let mut input = [0; ROOM];
+    let mut input = no_input();
     match read_input(from, &mut input) {
         Ok(n) => print(rt, &input[..n]),
         Err(error) => fail(rt, name, error),

@@ -2,7 +2,8 @@
 use Prim.Native.Nat.{ℕ, zero, suc, ◌-◌, ◌/◌, ◌%◌, ◌^◌, ◌≤◌, ◌<◌}
 use mathlib.Core.Path.{◌≡◌, refl}
 use mathlib.Core.List.{[], ◌∷◌}
-use native.Mathlib.Omega.{arith}
+use native.Mathlib.Omega.{arith, by_contra}
+use native.Mathlib.Nat.{pow-le-pow_right}
 use borrow.Author.Tests.{lt-ltb}
 use Rattle.io.specs.Digits.{hex_digit_ascii, last_digits, IsDigitCount}
 use Rattle.lines.specs.Output.{digit, leading, decimal}
@@ -38,3 +39,10 @@ decimal_is (suc k) n f =
           let i : suc k - 1 ≡ suc j = omega arith in
           let l : 10 ^ suc j ≤ n = rw i at (f.2 (omega arith)) in omega arith),
     )
+
+-- 64 bits need at most 20 digits
+pub few_digits : (k n : ℕ) → n < 18446744073709551616 → IsDigitCount 10 1 n k → k ≤ 20
+few_digits k n fits f = by_contra k 20 (λ more.
+    let p : 10 ^ 20 ≤ 10 ^ (k - 1) = pow-le-pow_right {n = 10} (omega arith) {i = 20} {j = k - 1} (omega arith) in
+    let l = f.2 (omega arith) in
+    omega arith)

@@ -2,15 +2,15 @@
 use Prim.Native.Nat.{ℕ, zero, suc, ◌+◌, ◌-◌, ◌≤◌, ◌<◌, zero-le, suc-le-suc}
 use mathlib.Core.Path.{◌≡◌, refl, sym, ap, ◌∙◌}
 use mathlib.Core.Bool.{Bool, true, false, cond}
-use mathlib.Core.List.{List, [], ◌∷◌}
+use mathlib.Core.List.{List, [], ◌∷◌, ◌++◌}
 use mathlib.Core.Option.{some, none}
 use lib.ListN.{length, get_or, set, take}
 use lib.Seq.{paste}
-use lib.IntN.{ℤ, pos, negsuc, nat_abs, pos-ne-negsuc}
+use lib.IntN.{ℤ, pos, negsuc, nat_abs, pos-ne-negsuc, ◌-ℤ◌}
 use lib.Dec.{ltb}
 use mir.Syntax.{w64}
 use mir.Val.{SFits, to_z, of_z}
-use mir.ValLaws.{to_z-of_z}
+use mir.ValLaws.{to_z_pos, to_z-of_z}
 use borrow.Author.Tests.{ltb-true, ltb-false, lt-ltb, le-ltb}
 use native.Mathlib.Omega.{arith}
 use native.Mathlib.Nat.{le_of_suc-le-suc, not-suc-le-zero, zero-add}
@@ -62,6 +62,21 @@ margin_fits deadline bound h k = go (ltb deadline bound) refl
     go : (t : Bool) → ltb deadline bound ≡ t → SFits w64 (margin_of deadline bound)
     go true e = record { sfits = rw (late deadline bound (ltb-true deadline bound e)) (omega arith) }
     go false e = record { sfits = rw (in_time deadline bound (ltb-false deadline bound e)) (omega arith) }
+
+-- a number under the limits is the same read as signed
+cast_keeps : (n : ℕ) → n ≤ value_limit → to_z w64 n ≡ pos n
+cast_keeps n h = to_z_pos w64 n (omega arith)
+
+-- the difference of what is cast fits, and is the margin once it is read back
+module _ (deadline bound : ℕ) (few : (deadline ≤ last_deadline) × (bound ≤ value_limit)) where
+  difference_is : to_z w64 deadline -ℤ to_z w64 bound ≡ margin_of deadline bound
+  difference_is = rw (cast_keeps deadline few.0, cast_keeps bound few.1)
+
+  pub difference_fits : SFits w64 (to_z w64 deadline -ℤ to_z w64 bound)
+  difference_fits = rw difference_is (margin_fits deadline bound few.0 few.1)
+
+  pub difference_read : to_z w64 (of_z w64 (to_z w64 deadline -ℤ to_z w64 bound)) ≡ margin_of deadline bound
+  difference_read = to_z-of_z w64 _ difference_fits ∙ difference_is
 
 -- each deadline of a list is in range
 abbrev pub InRange : List ℕ → Type 0
@@ -118,6 +133,15 @@ margins_more deadlines bounds margins i h k l few e =
     let (inside, same) = margin_at i deadlines bounds (omega arith) k in
     let more = paste_more margins 0 (margins_of deadlines bounds) i (pos 0) (omega arith) inside in
     rw (e, to_z-of_z w64 _ (margin_fits (get_or deadlines i 0) (get_or bounds i 0) few.0 few.1), ← same) (simp zero-add (simp zero-add at more))
+
+-- bounds after those of the routines have no part in their margins
+pub margins_before : (deadlines bounds others : List ℕ) → length bounds ≤ length deadlines →
+    take (length bounds) (margins_of deadlines (bounds ++ others)) ≡ margins_of deadlines bounds
+unfolding margins_of
+margins_before [] [] others h = refl
+margins_before (d ∷ ds) [] others h = refl
+margins_before [] (b ∷ bs) others h = absurd (not-suc-le-zero h)
+margins_before (d ∷ ds) (b ∷ bs) others h = ap (λ r. margin_of d b ∷ r) (margins_before ds bs others (le_of_suc-le-suc h))
 
 -- deadlines after those of the routines have no part in their margins
 pub margins_first : (deadlines bounds : List ℕ) → margins_of (take (length bounds) deadlines) bounds ≡ margins_of deadlines bounds

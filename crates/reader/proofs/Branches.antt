@@ -84,6 +84,10 @@ module _ {read : ChildReader} {n start : ℕ} {standing : Standing} {product : �
     pub branch_limited : Limited b.mark
     branch_limited = rw told w.fine.mark
 
+  -- how large the sum and the largest branch can be
+  pub branching_small : (sum ≤ i * 1099511627775) × (top ≤ 1099511627775)
+  branching_small = (rw g.sums g.going.tally.sum, rw g.tops g.going.tally.top)
+
   -- the end: what the marked branches add is added
   pub branching_ends : {z : Aside} {value more : ℕ} → n + 1 ≡ i → a.added ≤ value_cap →
       more ≡ charges_of product top 0 (take (held - base) (drop base marks)) →

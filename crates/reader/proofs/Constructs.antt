@@ -88,6 +88,12 @@ module _ (left : ℕ) (s : List ℕ) (own : ℕ) (standing : Standing) (c : Curs
       go : Ranged s own left c.at (found (kinds.Call number) next) → (1 ≤ number) × (number < own)
       go (Ranged.a_call p g h) = (g, h)
 
+  pub marker_range : {limit cost next : ℕ} → found_at s own left standing c ≡ found (kinds.Marker limit cost) next → limit ≤ 1000000
+  marker_range {limit} {cost} {next} e = go (of_found e)
+    where
+      go : Ranged s own left c.at (found (kinds.Marker limit cost) next) → limit ≤ 1000000
+      go (Ranged.a_marker p g h) = g
+
   pub sequence_range : {n next : ℕ} → found_at s own left standing c ≡ found (kinds.Sequence n) next → Past s left c.at next × (n ≤ 1000)
   sequence_range {n} {next} e = go (of_found e)
     where

@@ -123,6 +123,10 @@ module _ (read : ChildReader) (o : Owner) (s lent : List ℕ) (n base : ℕ) (fr
 
 module _ {read : ChildReader} {o : Owner} {s lent : List ℕ} {n base : ℕ} {from : Cursor} {first : Aside} {marks : List ℕ} {t : Tally} {held : ℕ} {c : Cursor}
     {i : ℕ} {aside : Aside} {marked : Option ℕ} where
+  -- the constructs that were valued are few
+  pub few_valued : Going read o s lent n base from first marks t held c i aside marked → length s ≤ 60000 → aside.constructs + i ≤ 7500
+  few_valued g short = omega (arith, g.constructs, g.past, g.before, g.inside)
+
   -- what was lent is as it was below the base, and as long
   pub still_below : (after : List ℕ) → Going read o s lent n base from first marks t held c i aside marked → take held after ≡ take held marks →
       take base after ≡ take base lent

@@ -111,3 +111,8 @@ module _ (kind i value : ℕ) (mark : Option ℕ) (held : ℕ) (marks : List ℕ
   pub kept_other : is_branch kind i ≡ false → held ≤ length marks → Kept held marks
   unfolding kept_of
   kept_other b h = rw b (let n = length-take held marks in (omega arith, (refl, refl)))
+
+-- what is no branch is not kept, whatever its mark
+pub kept_alike : (kind i value : ℕ) (mark other : Option ℕ) (marks : List ℕ) → is_branch kind i ≡ false → kept_of kind i value mark marks ≡ kept_of kind i value other marks
+unfolding kept_of
+kept_alike kind i value mark other marks b = rw b

@@ -14,7 +14,7 @@ use Rattle.reader.specs.Reader.{Owner, owner_of, ChildReader, list_from, Lent, W
 use Rattle.reader.proofs.Laws.{no_loop}
 use Rattle.reader.proofs.Tells.{told_as}
 use Rattle.reader.proofs.Children.{timed_child}
-use Rattle.reader.proofs.Going.{child_refused}
+use Rattle.reader.proofs.Going.{child_refused, few_valued}
 use Rattle.reader.proofs.Summing.{Summing, summing_first, summing_more, summing_ends}
 
 -- a record of kind 7
@@ -37,6 +37,9 @@ module _ (read : ChildReader) (time : ℕ) (standing : Standing) (product : ℕ)
     all =
         let child = told_as (timed_child read start standing product _ from time) w in
         summing_more first after child {x = v} refl lends.room (no_loop refl) (omega arith) refl still long
+
+    pub timed_few : length s ≤ 60000 → b.constructs + 1 ≤ 7500
+    timed_few short = few_valued all.going short
 
     pub timed_ends : Valued (length s) start a (list_from read (timed time start standing product) 1 from) (Ok (value_told (v + time), next)) (aside_told b (v + time) 1 start)
     timed_ends = summing_ends all {value = v + time} (omega arith) small refl (omega arith)

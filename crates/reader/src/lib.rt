@@ -311,8 +311,29 @@ fn child(
 {
     match at_once(known, c, way, standing, notes) {
         Some(done) => Ok(done),
-        None => construct(known, c, way, standing, marks, held, notes),
+        None => with_list(known, c, way, standing, marks, held, notes),
     }
+}
+
+// The same where it was not read at once. A function of its own: room for what a call gives is cleared where its caller begins, so that `child`, with this
+// call in it, would clear it for each construct, and most are read at once (docs/PERFORMANCE.md).
+#[cycle(construct_list)]
+#[inline(always)]
+fn with_list(
+    known: &Known,
+    c: Cursor,
+    way: &Way,
+    standing: Standing,
+    marks: &mut [u64],
+    held: usize,
+    notes: &mut Notes,
+) -> Result<(u64, Cursor), Refusal>
+    requires lent { Lent known.now.sheet.now marks.old notes.old.constructs held c.at }
+    ensures tells { Tells (length known.now.sheet.now) c.at (aside_is notes.old) (construct_of way.now.left known.now.sheet.now known.now.bounds.now known.now.own standing way.now.passes c) result (aside_is notes.new) }
+    ensures marks_unchanged { take held marks.new ≡ take held marks.old }
+    ensures marks_len_unchanged { length marks.new ≡ length marks.old }
+{
+    construct(known, c, way, standing, marks, held, notes)
 }
 
 // One construct, with the list that it owns. marks keeps the marked branches of the alternatives that are open, so many of them: a lent slice, since
@@ -371,9 +392,9 @@ fn construct(
     }
 }
 
-// The n constructs of a sequence, and its end. Called and not inlined, so that its loop has the registers to itself: most constructs are read there.
+// The n constructs of a sequence, and its end. In line in `construct`: sequences in each other take one call for each, and not two (docs/PERFORMANCE.md).
 #[cycle(construct_list)]
-#[inline(never)]
+#[inline(always)]
 fn sequence(
     known: &Known,
     owner: Owner,

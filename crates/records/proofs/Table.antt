@@ -1,10 +1,11 @@
 -- Laws of the table of records: which kinds stand where, and that the code's form of a kind says what the table does.
 use Prim.Native.Nat.{ℕ}
 use mathlib.Core.Path.{◌≡◌, refl, sym, ap, subst, ◌∙◌}
+use mathlib.Core.Logic.{◌≢◌}
 use mathlib.Core.Bool.{Bool, true, false, not, false≢true}
 use mathlib.Core.List.{List, [], ◌∷◌}
 use lib.Dec.{leb, ltb, eqb}
-use borrow.Author.Tests.{leb-true, leb-false, eqb-true, lt-ltb, le-ltb}
+use borrow.Author.Tests.{leb-true, leb-false, eqb-true, ne_eqb, lt-ltb, le-ltb}
 use Rattle.meaning.specs.Format.{pick, Range, Row, sheet_rows, routine_rows, construct_rows, listed, ranges_of, within, in_ranges}
 use Rattle.meaning.specs.Judgement.{Owed, sheet, routine, construct, rows_of}
 use Rattle.records.specs.Steps.{every_row, outside}
@@ -28,6 +29,12 @@ by_rows P (r ∷ rs) each kind h = go (eqb kind r.kind) refl h (by_rows P rs eac
         P kind (pick t r.ranges (ranges_of kind rs))
     go true e h rest = subst (λ k. P k r.ranges) (sym (eqb-true kind r.kind e)) each.0
     go false e h rest = rest h
+
+-- a kind that no row has
+pub in_no_row : (kind : ℕ) (rows : List Row) → Each (λ k _. kind ≢ k) rows → listed kind rows ≡ false
+unfolding listed
+in_no_row kind [] each = refl
+in_no_row kind (r ∷ rs) each = simp (ne_eqb kind r.kind each.0) (in_no_row kind rs each.1)
 
 -- a row has one field or two, and no other row of the table has its kind
 abbrev pub Few : List Range → Type 0

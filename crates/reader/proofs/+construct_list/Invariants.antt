@@ -8,25 +8,28 @@ use Rattle.reader.proofs.Branches.{Branching}
 use Rattle.reader.proofs.+construct_list.Given as goal
 
 abbrev pub decreases-alternative : goal.decreases-alternative
-decreases-alternative l = l.way.now.left * 3 + 2
+decreases-alternative l = l.way.now.left * 4 + 3
 
 abbrev pub decreases-child : goal.decreases-child
-decreases-child l = l.way.now.left * 3 + 1
+decreases-child l = l.way.now.left * 4 + 2
 
 abbrev pub decreases-construct : goal.decreases-construct
-decreases-construct l = l.way.now.left * 3
+decreases-construct l = l.way.now.left * 4
 
 abbrev pub decreases-head_loop : goal.decreases-head_loop
-decreases-head_loop l = l.way.now.left * 3 + 2
+decreases-head_loop l = l.way.now.left * 4 + 3
 
 abbrev pub decreases-sequence : goal.decreases-sequence
-decreases-sequence l = l.way.now.left * 3 + 2
+decreases-sequence l = l.way.now.left * 4 + 3
 
 abbrev pub decreases-tail_loop : goal.decreases-tail_loop
-decreases-tail_loop l = l.way.now.left * 3 + 2
+decreases-tail_loop l = l.way.now.left * 4 + 3
 
 abbrev pub decreases-timed_loop : goal.decreases-timed_loop
-decreases-timed_loop l = l.way.now.left * 3 + 2
+decreases-timed_loop l = l.way.now.left * 4 + 3
+
+abbrev pub decreases-with_list : goal.decreases-with_list
+decreases-with_list l = l.way.now.left * 4 + 1
 
 abbrev pub invariant-alternative-loop-branch : goal.invariant-alternative-loop-branch
 invariant-alternative-loop-branch l =
