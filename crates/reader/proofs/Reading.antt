@@ -1,6 +1,6 @@
 -- What a record learns of a child: how it is read; its value; or its refusal, which is one of the list.
 use Rattle.std.proofs.Common.{ℕ, ◌≡◌, sym, ap, ◌∙◌, ◌-◌, ◌*◌, ◌<◌, ◌≤◌, List, length, arith}
-use Rattle.std.specs.Prelude.{Bool, Option, None, Ok, Err, IsErrAnd}
+use Rattle.std.specs.Prelude.{Bool, Option, Some, None, Ok, Err, IsErrAnd}
 use Rattle.meaning.specs.Judgement.{Reading, found}
 use Rattle.records.specs.declared.Found.{Found}
 use Rattle.records.specs.declared.Cursor.{Cursor}
@@ -15,10 +15,19 @@ use Rattle.reader.proofs.Going.{Going, child_refused}
 pub found_as : {f g : Found} {next : ℕ} {j : Reading Found} → found f next ≡ j → f ≡ g → j ≡ found g next
 found_as {next = next} e is = sym e ∙ ap (λ x. found x next) is
 
+-- what was read at once has its value, whatever its passes are
+pub quickly_value : {long at : ℕ} {a b : Aside} {x : ℕ → Parsed} {v : ℕ} {next : Cursor} → Quickly long at a x (Some (v, next)) b → (product : ℕ) →
+    Valued long at a (x product) (Ok (v, next)) b
+quickly_value {v = v} {next = next} (at_once {v = w} {next = past} e h) product =
+    let is : ◌≡◌ {A = Returned} (Ok (w, past)) (Ok (v, next)) = cc in
+    rw (← is) (h product)
+quickly_value (not_read e f) product = let z : ◌≡◌ {A = ℕ} 0 1 = cc in absurd (omega arith)
+
 -- what is not read at once is as it was
-pub unread : {long at : ℕ} {a b b' : Aside} {x : Parsed} {r : Returned} → Quickly long at a x None b → Tells long at b x r b' → Tells long at a x r b'
-unread (at_once e w) t = let z : ◌≡◌ {A = ℕ} 0 1 = cc in absurd (omega arith)
-unread (not_read e f) t = rw (← f) t
+pub unread : {long at : ℕ} {a b b' : Aside} {x : ℕ → Parsed} {r : Returned} (product : ℕ) → Quickly long at a x None b → Tells long at b (x product) r b' →
+    Tells long at a (x product) r b'
+unread product (at_once e h) t = let z : ◌≡◌ {A = ℕ} 0 1 = cc in absurd (omega arith)
+unread product (not_read e f) t = rw (← f) t
 
 -- a list is read as deep as it is said to be
 pub deeper_list : {left left' product product' : ℕ} (standing : Standing) (s bounds : List ℕ) (own kind first : ℕ) (scope : Bool) (start n : ℕ) (next : Cursor) →

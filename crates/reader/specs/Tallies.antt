@@ -204,7 +204,7 @@ pub data Tells (long at : ℕ) (a : Aside) (x : Parsed) (r : Result (ℕ × Curs
   a_value : Valued long at a x r b → Tells long at a x r b
   a_refusal : {refusal : Refusal} → x ≡ Refused (number_of refusal.fault) refusal.place → r ≡ Err refusal → Tells long at a x r b
 
--- the same where it is read at once; any other is left as it is
-pub data Quickly (long at : ℕ) (a : Aside) (x : Parsed) (r : Option (ℕ × Cursor)) (b : Aside) : Type 0 where
-  at_once : {v : ℕ} {next : Cursor} → r ≡ Some (v, next) → Valued long at a x (Ok (v, next)) b → Quickly long at a x r b
+-- the same where it is read at once, whatever its passes are; any other is left as it is
+pub data Quickly (long at : ℕ) (a : Aside) (x : ℕ → Parsed) (r : Option (ℕ × Cursor)) (b : Aside) : Type 0 where
+  at_once : {v : ℕ} {next : Cursor} → r ≡ Some (v, next) → ((product : ℕ) → Valued long at a (x product) (Ok (v, next)) b) → Quickly long at a x r b
   not_read : r ≡ None → b ≡ a → Quickly long at a x r b

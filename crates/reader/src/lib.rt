@@ -270,7 +270,7 @@ fn at_once(
     notes: &mut Notes,
 ) -> Option<(u64, Cursor)>
     ensures { Quickly (length known.now.sheet.now) c.at (aside_is notes.old)
-        (construct_of way.now.left known.now.sheet.now known.now.bounds.now known.now.own standing way.now.passes c) result (aside_is notes.new) }
+        (λ product. construct_of way.now.left known.now.sheet.now known.now.bounds.now known.now.own standing product c) result (aside_is notes.new) }
 {
     let place = Place {
         own: known.own,

@@ -21,7 +21,7 @@ use Rattle.reader.proofs.+construct_list.Goals.{tail_loop-After-opened-before, t
 
 -- `child` is what `construct` is, where it is not read at once.
 pub child-returns-in-None-clause-tells : goal.child-returns-in-None-clause-tells
-child-returns-in-None-clause-tells t c = unread c.in-None.ensures c.with_list.ensures.tells
+child-returns-in-None-clause-tells t c = unread c.args.way.now.passes c.in-None.ensures c.with_list.ensures.tells
 
 -- `construct`: a record that owns nothing has its value (Constructs); any other hands one depth less to the reader of its list.
 pub construct-returns-in_err-found-clause-tells : goal.construct-returns-in_err-found-clause-tells

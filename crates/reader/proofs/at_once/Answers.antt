@@ -31,12 +31,12 @@ bounds-known-called c = omega (arith, called (goal.at.bounds-known-called c).In-
 
 pub returns-in-Primitive : goal.returns-in-Primitive
 returns-in-Primitive c =
-    at_once refl (primitive_alone _ _ _ _ _ _ _ c.args.notes.now.at_most (leaf_primitive _ (leaf_as c.in_ok-leaf.ensures c.in-Primitive.is)))
+    at_once refl (λ product. primitive_alone _ _ _ _ _ product _ c.args.notes.now.at_most (leaf_primitive _ (leaf_as c.in_ok-leaf.ensures c.in-Primitive.is)))
 
 pub returns-in-Call : goal.returns-in-Call
 returns-in-Call c =
-    at_once refl (call_alone _ _ _ _ _ _ _ c.args.notes.now.at_most c.args.known.now.small (leaf_call _ (leaf_as c.in_ok-leaf.ensures c.in-Call.is)))
+    at_once refl (λ product. call_alone _ _ _ _ _ product _ c.args.notes.now.at_most c.args.known.now.small (leaf_call _ (leaf_as c.in_ok-leaf.ensures c.in-Call.is)))
 
 pub returns-in-Marker : goal.returns-in-Marker
 returns-in-Marker c =
-    at_once refl (marker_alone _ _ _ _ _ _ _ c.args.notes.now.at_most (leaf_marker _ (leaf_as c.in_ok-leaf.ensures c.in-Marker.is)))
+    at_once refl (λ product. marker_alone _ _ _ _ _ product _ c.args.notes.now.at_most (leaf_marker _ (leaf_as c.in_ok-leaf.ensures c.in-Marker.is)))
