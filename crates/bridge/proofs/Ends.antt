@@ -1,5 +1,5 @@
--- The first record that is too big, of one list after another; and that what the code tells at a record's end agrees.
-use Prim.Native.Nat.{ℕ, ◌+◌, min}
+-- The first record that is too big, of one list after another, and where it stands; and that what the code tells at a record's end agrees.
+use Prim.Native.Nat.{ℕ, ◌+◌, ◌≤◌, min}
 use mathlib.Core.Path.{◌≡◌, refl, sym, ap, ◌∙◌}
 use mathlib.Core.Bool.{Bool, true, false}
 use mathlib.Core.List.{List, [], ◌∷◌, ◌++◌}
@@ -10,12 +10,13 @@ use borrow.Author.Tests.{ltb-true, ltb-false, lt-ltb, le-ltb}
 use native.Mathlib.Omega.{arith}
 use Rattle.std.specs.Prelude.{Option, Some, None}
 use Rattle.std.specs.Option.{option_or}
-use Rattle.meaning.specs.Tree.{Construct, itself, mark}
+use Rattle.meaning.specs.Tree.{Construct, Constructs, itself, mark}
+use Rattle.meaning.specs.Tree.{primitive, sequence, alternative, head_loop, tail_loop, timed_loop, call, marker, end, ◌then◌}
 use Rattle.meaning.specs.Format.{pick}
 use Rattle.meaning.specs.Value.{Known, value, total, times, charges}
 use Rattle.meaning.specs.Work.{records}
 use Rattle.meaning.specs.Judgement.{found}
-use Rattle.meaning.specs.Answer.{value_limit, Ended, ended, ends, too_big}
+use Rattle.meaning.specs.Answer.{value_limit, Ended, ended, ended_in, ends, too_big}
 use Rattle.records.specs.declared.Cursor.{Cursor}
 use Rattle.reader.specs.Tallies.{value_cap, value_told, over_told, ended_of}
 use Rattle.reader.proofs.Tells.{told_small}
@@ -96,3 +97,60 @@ ended_law {known = known} {at = at} {v = v} {c = c} inner h reached =
         let x = ltb-false value_limit (value known c) t in
         let same = h.amount a in
         (a, rw (same_test v (value known c) same, t) (omega arith))
+
+-- each of these records stands at place n or later
+pub data From (n : ℕ) : List Ended → Type 0 where
+  no_more : From n []
+  one_more : {e : Ended} {es : List Ended} → n ≤ e.place → From n es → From n (e ∷ es)
+
+-- one list after another
+pub from_append : {n : ℕ} {xs ys : List Ended} → From n xs → From n ys → From n (xs ++ ys)
+from_append no_more k = k
+from_append (one_more h f) k = one_more h (from_append f k)
+
+-- the same of an earlier place
+pub from_earlier : {m n : ℕ} {es : List Ended} → From n es → m ≤ n → From m es
+from_earlier no_more k = no_more
+from_earlier (one_more h f) k = one_more (omega arith) (from_earlier f k)
+
+-- a record's own end is at its place
+own_from : (known : Known) (at : ℕ) (c : Construct) → From at (ends known at c)
+own_from known at c = one_more (omega arith) no_more
+
+-- the records of a construct stand where it stands or later, and so do those of constructs in order
+mutual
+  unfolding ended ended_in
+
+  pub ended_from : (known : Known) (at : ℕ) (c : Construct) → From at (ended known at c)
+  ended_from known at (primitive p) = own_from known at (primitive p)
+  ended_from known at (sequence cs) = from_append (from_earlier (ended_in_from known _ cs) (omega arith)) (own_from known at (sequence cs))
+  ended_from known at (alternative c bs) =
+      from_append (from_append (from_earlier (ended_from known _ c) (omega arith)) (from_earlier (ended_in_from known _ bs) (omega arith)))
+      (own_from known at (alternative c bs))
+  ended_from known at (head_loop l i c b o) =
+      from_append (from_append (from_append (from_append (from_earlier (ended_from known _ i) (omega arith)) (from_earlier (ended_from known _ c) (omega arith)))
+      (from_earlier (ended_from known _ b) (omega arith))) (from_earlier (ended_from known _ o) (omega arith))) (own_from known at (head_loop l i c b o))
+  ended_from known at (tail_loop l b c o) =
+      from_append (from_append (from_append (from_earlier (ended_from known _ b) (omega arith)) (from_earlier (ended_from known _ c) (omega arith)))
+      (from_earlier (ended_from known _ o) (omega arith))) (own_from known at (tail_loop l b c o))
+  ended_from known at (timed_loop w o) = from_append (from_earlier (ended_from known _ o) (omega arith)) (own_from known at (timed_loop w o))
+  ended_from known at (call k) = own_from known at (call k)
+  ended_from known at (marker m) = own_from known at (marker m)
+
+  pub ended_in_from : (known : Known) (at : ℕ) (cs : Constructs) → From at (ended_in known at cs)
+  ended_in_from known at end = no_more
+  ended_in_from known at (c then cs) = from_append (ended_from known at c) (from_earlier (ended_in_from known _ cs) (omega arith))
+
+-- so the first that is too big stands there or later
+pub big_from : (n : ℕ) (es : List Ended) {place : ℕ} → From n es → too_big es ≡ some place → n ≤ place
+unfolding too_big
+big_from n [] no_more q = cc
+big_from n (e ∷ es) {place} (one_more h f) q = go (ltb value_limit e.value) q (big_from n es f)
+  where
+    go : (t : Bool) → pick t (some e.place) (too_big es) ≡ some place → (too_big es ≡ some place → n ≤ place) → n ≤ place
+    go true q k = let same : e.place ≡ place = cc in omega arith
+    go false q k = k q
+
+-- no construct stands at place 0
+pub over_past : (known : Known) (at : ℕ) (c : Construct) {place : ℕ} → 1 ≤ at → too_big (ended known at c) ≡ some place → 1 ≤ place
+over_past known at c h q = let k = big_from at (ended known at c) (ended_from known at c) q in omega arith
