@@ -33,7 +33,7 @@ big_append (x ∷ xs) ys = go (ltb value_limit x.value) (big_append xs ys)
     go false e = e
 
 -- a record's own end comes last
-big_end : (xs : List Ended) (known : Known) (at : ℕ) (c : Construct) → over_in (xs ++ ends known at c) ≡ over_told (over_in xs) (value known c) at
+pub big_end : (xs : List Ended) (known : Known) (at : ℕ) (c : Construct) → over_in (xs ++ ends known at c) ≡ over_told (over_in xs) (value known c) at
 unfolding too_big
 big_end xs known at c = big_append xs (ends known at c) ∙ ap (option_or (over_in xs)) (go (ltb value_limit (value known c)))
   where

@@ -55,7 +55,7 @@ module _ {read : ChildReader} {n start : ℕ} {standing : Standing} {product : �
   module _ {b : Aside} (after : List ℕ) {v : ℕ} {next : Cursor}
       (w : Valued (length s) c.at (mark_as aside None) (child_of read whole i (held - base) c) (Ok (v, next)) b)
       (spare : length s ≤ 8 * length lent) (some : 1 ≤ i) (more : i < n + 1) (still : take held after ≡ take held marks) (long : length after ≡ length marks) where
-    abbrev child : Child read whole s lent (n + 1) base from a marks g.t held c i aside marked (mark_as aside None) after w.told v next b
+    abbrev pub child : Child read whole s lent (n + 1) base from a marks g.t held c i aside marked (mark_as aside None) after w.told v next b
     child = child_of_lem after w g.going spare (no_loop refl) more refl refl refl still long
 
     -- its mark is what it told

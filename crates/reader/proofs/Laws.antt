@@ -26,7 +26,7 @@ pub pick_same : {A : Type 0} (t : Bool) (a : A) → pick t a a ≡ a
 pick_same t a = picked (λ x. x ≡ a) t refl refl
 
 -- a product stays in 64 bits
-rounds_small : {v count : ℕ} → v ≤ 1099511627775 → count ≤ 1000000 → v * count ≤ 1099511627775000000
+pub rounds_small : {v count : ℕ} → v ≤ 1099511627775 → count ≤ 1000000 → v * count ≤ 1099511627775000000
 rounds_small p q = mul-le-mul p q
 
 -- the marked branches from one on
