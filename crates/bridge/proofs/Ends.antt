@@ -3,24 +3,24 @@ use Prim.Native.Nat.{ℕ, ◌+◌, ◌≤◌, min}
 use mathlib.Core.Path.{◌≡◌, refl, sym, ap, ◌∙◌}
 use mathlib.Core.Bool.{Bool, true, false}
 use mathlib.Core.List.{List, [], ◌∷◌, ◌++◌}
-use mathlib.Core.Option.{some, none}
+use mathlib.Core.Option.{Option as Maybe, some, none}
 use lib.ListN.{length}
 use lib.Dec.{ltb}
 use borrow.Author.Tests.{ltb-true, ltb-false, lt-ltb, le-ltb}
 use native.Mathlib.Omega.{arith}
 use Rattle.std.specs.Prelude.{Option, Some, None}
 use Rattle.std.specs.Option.{option_or}
-use Rattle.meaning.specs.Tree.{Construct, Constructs, itself, mark}
+use Rattle.meaning.specs.Tree.{Construct, Constructs, Routine, Sheet, itself, mark}
 use Rattle.meaning.specs.Tree.{primitive, sequence, alternative, head_loop, tail_loop, timed_loop, call, marker, end, ◌then◌}
 use Rattle.meaning.specs.Format.{pick}
-use Rattle.meaning.specs.Value.{Known, value, total, times, charges}
+use Rattle.meaning.specs.Value.{Known, value, bound, knowing, nothing, total, times, charges}
 use Rattle.meaning.specs.Work.{records}
 use Rattle.meaning.specs.Judgement.{found}
-use Rattle.meaning.specs.Answer.{value_limit, Ended, ended, ended_in, ends, too_big}
+use Rattle.meaning.specs.Answer.{value_limit, Ended, ended, ended_in, ended_routines, ended_of as ended_of_sheet, ends, too_big}
 use Rattle.records.specs.declared.Cursor.{Cursor}
-use Rattle.reader.specs.Tallies.{value_cap, value_told, over_told, ended_of}
+use Rattle.reader.specs.Tallies.{Share, value_cap, value_told, over_told, ended_of}
 use Rattle.reader.proofs.Tells.{told_small}
-use Rattle.bridge.proofs.Agree.{place_of, limit_of, over_in, Same, read_done}
+use Rattle.bridge.proofs.Agree.{place_of, limit_of, over_in, Agrees, Same, read_done}
 
 pub big_append : (xs ys : List Ended) → over_in (xs ++ ys) ≡ option_or (over_in xs) (over_in ys)
 unfolding too_big
@@ -154,3 +154,23 @@ big_from n (e ∷ es) {place} (one_more h f) q = go (ltb value_limit e.value) q 
 -- no construct stands at place 0
 pub over_past : (known : Known) (at : ℕ) (c : Construct) {place : ℕ} → 1 ≤ at → too_big (ended known at c) ≡ some place → 1 ≤ place
 over_past known at c h q = let k = big_from at (ended known at c) (ended_from known at c) q in omega arith
+
+-- nor a routine, so none of a sheet that is too big does
+pub routines_from : (known : Known) (at : ℕ) (rs : List Routine) → From at (ended_routines known at rs)
+unfolding ended_routines
+routines_from known at [] = no_more
+routines_from known at (r ∷ rs) =
+    from_append (from_append (from_earlier (ended_from known _ r.body) (omega arith)) (one_more (omega arith) no_more))
+    (from_earlier (routines_from (knowing known (bound known r)) _ rs) (omega arith))
+
+pub sheet_past : (s : Sheet) {place : ℕ} → too_big (ended_of_sheet s) ≡ some place → 1 ≤ place
+sheet_past s q = let k = big_from _ _ (routines_from nothing _ s.routines) q in omega arith
+
+-- what the code tells of a construct
+pub told_past : {known : Known} {product at past : ℕ} {c : Construct} {p : Share} {place : ℕ} → Agrees known product at c past p → 1 ≤ at →
+    p.over ≡ Some place → 1 ≤ place
+told_past {known = known} {at = at} {c = c} {p = p} {place = place} g h q = go (too_big (ended known at c)) (λ n. over_past known at c {place = n} h) (sym g.over ∙ q)
+  where
+    go : (t : Maybe ℕ) → ((n : ℕ) → t ≡ some n → 1 ≤ n) → place_of t ≡ Some place → 1 ≤ place
+    go none k e = cc
+    go (some n) k e = let same : n ≡ place = cc in let j = k n refl in omega arith
