@@ -155,7 +155,7 @@ big_from n (e ∷ es) {place} (one_more h f) q = go (ltb value_limit e.value) q 
 pub over_past : (known : Known) (at : ℕ) (c : Construct) {place : ℕ} → 1 ≤ at → too_big (ended known at c) ≡ some place → 1 ≤ place
 over_past known at c h q = let k = big_from at (ended known at c) (ended_from known at c) q in omega arith
 
--- nor a routine, so none of a sheet that is too big does
+-- nor does a routine, so that no sheet is too big at place 0
 pub routines_from : (known : Known) (at : ℕ) (rs : List Routine) → From at (ended_routines known at rs)
 unfolding ended_routines
 routines_from known at [] = no_more
